@@ -1,0 +1,12 @@
+pub mod Balances
+pub mod Checks
+pub mod Step
+pub mod Memory
+pub mod Drained
+pub mod Known
+pub mod Next
+pub mod Scattered
+pub mod Filling
+pub mod Asked
+pub mod Lists
+pub mod Marked

@@ -1,0 +1,112 @@
+-- Demand 3: one claim about a whole list of calls, on the head of an accepted opening and a table of any length and content.
+-- By induction over the list, with the book that head and table hold and the weigh book beside it.
+-- Assumes nothing.
+use mathlib.Core.Path.{_≡_, refl, sym, ap, _∙_}
+use mathlib.Core.List.{List, [], _∷_}
+use Prim.Native.Nat.{ℕ, zero, suc, _+_, _≤_}
+use native.Mathlib.Omega.{arith}
+use lib.ListN.{length}
+use borrow.Author.Tests.{ltb-false}
+use Rattle.table.specs.Pieces.{done}
+use Rattle.table.specs.Table.{placesOf, flat}
+use Rattle.refusal.specs.Numbers.{first, ifZero}
+use Rattle.refusal.proofs.Numbers.{passed}
+use Rattle.book.specs.declared.Head.{Head}
+use Rattle.book.specs.Head.{Book, bookOf, opened, openChecks, opens, opening, emptyHead}
+use Rattle.book.specs.Calls.{Call, says, leaves, noAnswer}
+use Rattle.book.specs.Memory.{Outcome, callOn}
+use Rattle.book.specs.WeighBook.{WeighBook, weighNumber, weighed, weighStep, blank, feed, listed, forecast}
+use Rattle.book.specs.Lists.{Journal, callsOn, answered, follow, transfers, evens, numbers, Demand3}
+use Rattle.book.proofs.Balances.{fresh-head}
+use Rattle.book.proofs.Step.{number, Ok, Beside, step}
+use Rattle.book.proofs.Memory.{On, back, adds, in-step}
+
+-- What holds of the journal r of the calls cs, from the book b and the weigh book w on.
+record Follows (places : ℕ) (b : Book) (w : WeighBook) (cs : List Call) (r : Journal) : Type 0 where
+  final : Book
+  on : On places (r .head) (r .table) final
+  ok : Ok places final
+  in-turn : final ≡ follow b (answered (r .log))
+  beside : Beside final (feed w (answered (r .log)))
+  count : length (final .pieces) + evens (r .log) + b .accepted ≡ length (b .pieces) + final .accepted
+  tally : final .accepted ≡ transfers (answered (r .log)) + b .accepted
+  forecasts : length (b .pieces) + transfers cs ≤ places → numbers (r .log) ≡ forecast w cs
+
+module _ (places : ℕ) where
+  abbrev Holds : List Call → Type 0
+  Holds cs = (h : Head) (t : List ℕ) (b : Book) (w : WeighBook) → On places h t b → Ok places b → Beside b w → Follows places b w cs (callsOn h t cs)
+
+  follows : (cs : List Call) → Holds cs
+  unfolding callsOn follow feed forecast
+  follows [] h t b w on o r = record { final = b; on = on; ok = o; in-turn = refl; beside = r; count = omega arith; tally = omega arith; forecasts = λ h. refl }
+  follows (c ∷ cs) h t b w on o r =
+      let s = in-step places h t b on o c in
+      go (number places b c) refl (s .0) (s .1) (s .2) (s .3) (follows cs)
+    where
+      u : Outcome
+      u = callOn h t c
+
+      go : (n : ℕ) → number places b c ≡ n → u .number ≡ n → u .answer ≡ ifZero n (says b c) noAnswer → On places (u .head) (u .table) (ifZero n (leaves b c) b) → Ok places (ifZero n (leaves b c) b)
+          → Holds cs → Follows places b w (c ∷ cs) (callsOn h t (c ∷ cs))
+      go zero e en ea on′ o′ next =
+          let a = step places b w c o r .accepts e in
+          let i = next (u .head) (u .table) (leaves b c) (weighed w c) on′ o′ (a .beside) in
+          record {
+            final = i .final;
+            on = i .on;
+            ok = i .ok;
+            in-turn = rw en (i .in-turn);
+            beside = rw (en, feed, a .weighs, feed) (i .beside);
+            count = rw (en, ea) (omega (arith, i .count, a .count, a .tally));
+            tally = rw en (omega (arith, i .tally, a .tally));
+            forecasts = λ h. rw (en, a .weighs, i .forecasts (omega (arith, a .count)));
+          }
+      go (suc n) e en ea on′ o′ next =
+          let i = next (u .head) (u .table) b w on′ o r in
+          record {
+            final = i .final;
+            on = i .on;
+            ok = i .ok;
+            in-turn = rw en (i .in-turn);
+            beside = rw en (i .beside);
+            count = rw en (omega (arith, i .count));
+            tally = rw en (i .tally);
+            forecasts = λ h.
+                let f = step places b w c o r .foretells (omega arith) in
+                rw (en, f .stays n e, ← e, f .same (numbers ((callsOn (u .head) (u .table) cs) .log)), i .forecasts (omega arith));
+          }
+
+fresh : (places rule size : ℕ) → first (openChecks rule size) ≡ 0 → Ok places (opened rule size)
+fresh places rule size e =
+    let p = passed (openChecks rule size) tt e in
+    record {
+      known = ltb-false 3 rule (p .0);
+      some-vessel = ltb-false size 1 (p .1 .0);
+      vessels-fit = ltb-false 64 size (p .1 .1 .0);
+      fits = omega arith;
+      counted = omega arith;
+      sound = done;
+      light = λ v. omega arith;
+      tally = omega arith;
+    }
+
+pub demand-3 : (rule size : ℕ) → (opening rule size) .number ≡ 0 → (t : List ℕ) (cs : List Call) → Demand3 rule size t cs (callsOn ((opening rule size) .head) t cs)
+unfolding opening flat
+demand-3 rule size e t cs = go (first (openChecks rule size)) refl e
+  where
+    go : (n : ℕ) → first (openChecks rule size) ≡ n → (opens rule size n) .number ≡ 0 → Demand3 rule size t cs (callsOn ((opens rule size n) .head) t cs)
+    go zero z u =
+        let b = opened rule size in
+        let f = follows (placesOf t) cs (emptyHead rule size) t b (blank size) (record { tail = t; head-is = fresh-head rule size; table-is = refl; places-is = refl }) (fresh (placesOf t) rule size z)
+        (record { same-size = refl; weights = λ v. refl; births = λ o t. refl; same-last = refl; same-count = refl }) in
+        let k = back (placesOf t) _ _ _ (f .on) (f .ok) in
+        record {
+          in-turn = k ∙ f .in-turn;
+          vessel-sums = λ v. rw (ap (λ b. b .pieces) k) (f .beside .weights v);
+          birth-sums = λ o m. rw (ap (λ b. b .pieces) k) (f .beside .births o m);
+          even-count = rw (f .on .head-is) (omega (arith, f .count));
+          accepted-count = rw (f .on .head-is) (omega (arith, f .tally));
+          forecasts = λ h. f .forecasts (omega arith);
+          adds-up = adds (placesOf t) _ _ _ (f .on) (f .ok);
+        }
+    go (suc n) z u = absurd (omega arith)

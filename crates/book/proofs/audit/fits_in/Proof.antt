@@ -1,0 +1,23 @@
+-- `audit::fits_in` meets its contract: each `return` is one of the tests of `fits`.
+-- Assumes nothing.
+use Rattle.table.proofs.Tests.{tests}
+use Rattle.book.proofs.audit.fits_in.Statement.{statement}
+use Rattle.book.proofs.audit.fits_in.Tie as tie
+
+returns : tie.Need-returns
+returns c = search tests
+
+returns-2 : tie.Need-returns-2
+returns-2 c = search tests
+
+returns-3 : tie.Need-returns-3
+returns-3 c = search tests
+
+returns-4 : tie.Need-returns-4
+returns-4 c = search tests
+
+returns-5 : tie.Need-returns-5
+returns-5 c = search tests
+
+pub fits-in-spec : {M : Type 1} → statement M
+fits-in-spec = tie.close (tie.spec returns returns-2 returns-3 returns-4 returns-5)

@@ -1,0 +1,9 @@
+pub mod Head
+pub mod Audit
+pub mod Reports
+pub mod Scatter
+pub mod Calls
+pub mod Memory
+pub mod NextHead
+pub mod WeighBook
+pub mod Lists

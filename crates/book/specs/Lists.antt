@@ -1,0 +1,73 @@
+-- Lists of calls, and demand 3: "Each call gets the head that the last one returned and the table as that one left it."
+-- Definitions only. Assumes nothing.
+use mathlib.Core.Path.{_≡_}
+use mathlib.Core.Bool.{true}
+use mathlib.Core.List.{List, [], _∷_}
+use Prim.Native.Nat.{ℕ, _+_, _≤_}
+use Rattle.table.specs.Pieces.{sum, bornAt, held}
+use Rattle.table.specs.Table.{placesOf}
+use Rattle.refusal.specs.Numbers.{ifZero}
+use Rattle.book.specs.declared.Head.{Head}
+use Rattle.book.specs.Head.{Book, bookOf, addsUp, opened}
+use Rattle.book.specs.Calls.{Call, Answer, leaves, counts, evenOf}
+use Rattle.book.specs.Memory.{Outcome, callOn}
+use Rattle.book.specs.WeighBook.{WeighBook, blank, feed, listed, forecast}
+
+-- a call with its number and answer
+pub record Entry : Type 0 where
+  pub asked : Call
+  pub number : ℕ
+  pub said : Answer
+
+-- the journal of a list of calls, and the head and the table after it
+pub record Journal : Type 0 where
+  pub log : List Entry
+  pub head : Head
+  pub table : List ℕ
+
+abbrev pub entered : Call → Outcome → Journal → Journal
+entered c o r = record { log = record { asked = c; number = o .number; said = o .answer } ∷ r .log; head = r .head; table = r .table }
+
+unfoldable pub callsOn : Head → List ℕ → List Call → Journal
+callsOn h t [] = record { log = []; head = h; table = t }
+callsOn h t (c ∷ cs) = let o = callOn h t c in entered c o (callsOn (o .head) (o .table) cs)
+
+-- the calls answered 0
+abbrev pub answered : List Entry → List Call
+answered [] = []
+answered (e ∷ es) = ifZero (e .number) (e .asked ∷ answered es) (answered es)
+
+-- "Followed in turn": each of these calls does to the book what is said of it.
+unfoldable pub follow : Book → List Call → Book
+follow b [] = b
+follow b (c ∷ cs) = follow (leaves b c) cs
+
+-- how many of the calls are transfers; how many transfers answered 0 were even; the numbers of the transfers
+abbrev pub transfers : List Call → ℕ
+transfers [] = 0
+transfers (c ∷ cs) = counts c + transfers cs
+
+abbrev pub evens : List Entry → ℕ
+evens [] = 0
+evens (e ∷ es) = ifZero (e .number) (evenOf (e .asked) (e .said)) 0 + evens es
+
+abbrev pub numbers : List Entry → List ℕ
+numbers [] = []
+numbers (e ∷ es) = listed (e .asked) (e .number) (numbers es)
+
+-- Demand 3, of the journal r of the calls cs on the head of an opening with this rule and this many vessels, and on the table t.
+pub record Demand3 (rule size : ℕ) (t : List ℕ) (cs : List Call) (r : Journal) : Type 0 where
+  -- the pieces are those, in that order, of the accepted calls followed in turn from the empty book
+  pub in-turn : bookOf (r .head) (r .table) ≡ follow (opened rule size) (answered (r .log))
+  -- in each vessel they sum to the weigh book's weight there, fed the accepted transfers
+  pub vessel-sums : (v : ℕ) → held v ((bookOf (r .head) (r .table)) .pieces) ≡ (feed (blank size) (answered (r .log))) .weight v
+  -- for each origin and birth minute they sum to what the weigh book saw born
+  pub birth-sums : (o m : ℕ) → sum (bornAt o m) ((bookOf (r .head) (r .table)) .pieces) ≡ (feed (blank size) (answered (r .log))) .births o m
+  -- pieces + even transfers = accepted transfers
+  pub even-count : r .head .pieces + evens (r .log) ≡ r .head .accepted
+  -- the head's count is the number of transfers answered 0
+  pub accepted-count : r .head .accepted ≡ transfers (answered (r .log))
+  -- where no more transfers are listed, refused ones counted, than there are places, the weigh book alone gives every transfer's number
+  pub forecasts : transfers cs ≤ placesOf t → numbers (r .log) ≡ forecast (blank size) cs
+  -- the book adds up, so that number 4 never comes
+  pub adds-up : addsUp (r .head) (r .table) ≡ true

@@ -1,0 +1,40 @@
+// The book: a head by value, and a table of pieces that the caller lends. No call keeps anything between two calls.
+pub mod audit;
+pub mod opening;
+pub mod reports;
+pub mod transfers;
+
+// The head of a book.
+#[repr(C)]
+pub struct Head {
+    pub rule: u32,
+    pub vessels: u32,
+    pub pieces: u32,
+    pub last: u32,
+    pub accepted: u32,
+    pub balances: [u32; 64],
+}
+
+// What opening answers.
+#[repr(C)]
+pub struct Opened {
+    pub number: u32,
+    pub head: Head,
+}
+
+// What a transfer answers: how many pieces moved whole, how many were split, the weight born.
+#[repr(C)]
+pub struct Transferred {
+    pub number: u32,
+    pub head: Head,
+    pub whole: u32,
+    pub split: u32,
+    pub born: u32,
+}
+
+// What a report answers.
+#[repr(C)]
+pub struct Reported {
+    pub number: u32,
+    pub head: Head,
+}

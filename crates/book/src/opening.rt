@@ -1,0 +1,53 @@
+// Opening a book.
+ghost use mathlib.Core.Path.{_≡_};
+ghost use Rattle.book.specs.Head.{emptyHead, notOpened, opening};
+use super::Head;
+use super::Opened;
+
+// The rules are numbered from 0 to this.
+pub const LAST_RULE: u32 = 3;
+
+// A book has at most this many vessels: the head holds a balance for each.
+pub const VESSELS: u32 = 64;
+
+// A head with this rule and this many vessels, and all other numbers 0.
+fn empty_head(rule: u32, vessels: u32) -> Head
+    ensures { λ r. ⌜ r ≡ emptyHead rule vessels ⌝ }
+{
+    Head {
+        rule: rule,
+        vessels: vessels,
+        pieces: 0,
+        last: 0,
+        accepted: 0,
+        balances: [0u32; 64],
+    }
+}
+
+fn refused(number: u32) -> Opened
+    ensures { λ r. ⌜ r ≡ notOpened number ⌝ }
+{
+    Opened {
+        number: number,
+        head: empty_head(0, 0),
+    }
+}
+
+// A fresh book under the rule, with this many vessels.
+pub fn open(rule: u32, vessels: u32) -> Opened
+    ensures { λ r. ⌜ r ≡ opening rule vessels ⌝ }
+{
+    if LAST_RULE < rule {
+        return refused(refusal::RULE_UNKNOWN);
+    }
+    if vessels < 1 {
+        return refused(refusal::VESSEL_COUNT);
+    }
+    if VESSELS < vessels {
+        return refused(refusal::VESSEL_COUNT);
+    }
+    Opened {
+        number: 0,
+        head: empty_head(rule, vessels),
+    }
+}

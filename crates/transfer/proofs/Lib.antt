@@ -1,0 +1,14 @@
+pub mod Taking
+pub mod Handed
+pub mod Rules
+pub mod InTable
+pub mod Marks
+pub mod Picks
+pub mod Planned
+pub mod Keys
+pub mod Walk
+pub mod Lifting
+pub mod Remainder
+pub mod Closing
+pub mod Applying
+pub mod Moving

@@ -1,0 +1,6 @@
+pub mod Selection
+pub mod Transfer
+pub mod InTable
+pub mod Plan
+pub mod Applied
+pub mod Parts

@@ -1,0 +1,97 @@
+// The pieces part of a transfer, in a constant number of passes over the table: the source's pieces are put in picking order, a plan
+// is made, and only if there is room for what it leaves is it applied.
+ghost use mathlib.Core.Path.{_≡_};
+ghost use Prim.Native.Nat.{_≤_};
+ghost use Rattle.transfer.specs.Transfer.{Transfer};
+ghost use Rattle.transfer.specs.Applied.{says, Ready, Moves};
+use plan::Plan;
+use selection::Order;
+
+pub mod apply;
+pub mod plan;
+pub mod selection;
+
+// A transfer's answer and the count of pieces after it; or full, and nothing is changed.
+pub struct Applied {
+    pub full: bool,
+    pub whole: u32,
+    pub split: u32,
+    pub born: u32,
+    pub count: usize,
+}
+
+// The answer where the plan was applied and leaves so many pieces.
+fn answer(order: Order, plan: Plan, count: usize) -> Applied
+    requires { ⌜ (plan .whole ≤ order .count) × (order .count ≤ 4096) ⌝ }
+    ensures { λ r. ⌜ r ≡ says order plan count ⌝ }
+{
+    let whole = plan.whole as u32;
+    if plan.whole < order.count {
+        if plan.left == 0 {
+            return Applied {
+                full: false,
+                whole: whole,
+                split: 0,
+                born: 0,
+                count: count,
+            };
+        }
+        return Applied {
+            full: false,
+            whole: whole,
+            split: 1,
+            born: 0,
+            count: count,
+        };
+    }
+    Applied {
+        full: false,
+        whole: whole,
+        split: 0,
+        born: plan.left,
+        count: count,
+    }
+}
+
+// Moves weight from source to destination under the rule, and says what was done. If the pieces afterwards would exceed the places,
+// nothing is written.
+pub fn move_pieces(
+    table: &mut [u32],
+    n: usize,
+    places: usize,
+    rule: u32,
+    source: u32,
+    destination: u32,
+    minute: u32,
+    weight: u32,
+    keys: &mut [u64],
+    spare: &mut [u64],
+    lifted: &mut [u32],
+) -> Applied
+    requires { ⌜ Ready n places source (now table) (now keys) (now spare) (now lifted) ⌝ }
+    ensures { λ r. ⌜ Moves n places rule (record { source = source; destination = destination; minute = minute; weight = weight }) (now (table .entry)) (now (table .exit)) r ⌝ }
+{
+    let order = selection::picking_order(table, n, rule, source, keys, spare);
+    let plan = plan::plan_of(table, n, keys, order, weight);
+    if plan::is_full(plan, n, places) {
+        return Applied {
+            full: true,
+            whole: 0,
+            split: 0,
+            born: 0,
+            count: n,
+        };
+    }
+    let count = apply::apply(
+        table,
+        n,
+        keys,
+        order,
+        plan,
+        source,
+        destination,
+        minute,
+        lifted,
+    );
+    answer(order, plan, count)
+}
