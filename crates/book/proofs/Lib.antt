@@ -8,5 +8,6 @@ pub mod Next
 pub mod Scattered
 pub mod Filling
 pub mod Asked
+pub mod After
 pub mod Lists
 pub mod Marked

@@ -20,6 +20,7 @@ use Rattle.book.specs.Lists.{Journal, callsOn, answered, follow, transfe
 use Rattle.book.proofs.Balances.{fresh-head}
 use Rattle.book.proofs.Step.{number, Ok, Beside, step}
 use Rattle.book.proofs.Memory.{On, back, adds, in-step}
+use Rattle.book.proofs.After.{fresh, fresh-on}
 
 -- What holds of the journal r of the calls cs, from the book b and the weigh book w on.
 record Follows (places : ℕ) (b : Book) (w : WeighBook) (cs : List Call) (r : Journal) : Type 0 where
@@ -76,37 +77,28 @@ module _ (places : ℕ) where
                 rw (en, f .stays n e, ← e, f .same (numbers ((callsOn (u .head) (u .table) cs) .log)), i .forecasts (omega arith));
           }
 
-fresh : (places rule size : ℕ) → first (openChecks rule size) ≡ 0 → Ok places (opened rule size)
-fresh places rule size e =
-    let p = passed (openChecks rule size) tt e in
+-- the theorem, from the fresh head
+pub opened-demand : (rule size : ℕ) → first (openChecks rule size) ≡ 0 → (t : List ℕ) (cs : List Call) → Demand3 rule size t cs (callsOn (emptyHead rule size) t cs)
+opened-demand rule size z t cs =
+    let b = opened rule size in
+    let f = follows (placesOf t) cs (emptyHead rule size) t b (blank size) (fresh-on rule size t) (fresh (placesOf t) rule size z)
+    (record { same-size = refl; weights = λ v. refl; births = λ o t. refl; same-last = refl; same-count = refl }) in
+    let k = back (placesOf t) _ _ _ (f .on) (f .ok) in
     record {
-      known = ltb-false 3 rule (p .0);
-      some-vessel = ltb-false size 1 (p .1 .0);
-      vessels-fit = ltb-false 64 size (p .1 .1 .0);
-      fits = omega arith;
-      counted = omega arith;
-      sound = done;
-      light = λ v. omega arith;
-      tally = omega arith;
+      in-turn = k ∙ f .in-turn;
+      vessel-sums = λ v. rw (ap (λ b. b .pieces) k) (f .beside .weights v);
+      birth-sums = λ o m. rw (ap (λ b. b .pieces) k) (f .beside .births o m);
+      even-count = rw (f .on .head-is) (omega (arith, f .count));
+      accepted-count = rw (f .on .head-is) (omega (arith, f .tally));
+      forecasts = λ h. f .forecasts (omega arith);
+      adds-up = adds (placesOf t) _ _ _ (f .on) (f .ok);
     }
 
+-- DEMAND 3: for every opening that is accepted, every table and every list of calls.
 pub demand-3 : (rule size : ℕ) → (opening rule size) .number ≡ 0 → (t : List ℕ) (cs : List Call) → Demand3 rule size t cs (callsOn ((opening rule size) .head) t cs)
-unfolding opening flat
+unfolding opening
 demand-3 rule size e t cs = go (first (openChecks rule size)) refl e
   where
     go : (n : ℕ) → first (openChecks rule size) ≡ n → (opens rule size n) .number ≡ 0 → Demand3 rule size t cs (callsOn ((opens rule size n) .head) t cs)
-    go zero z u =
-        let b = opened rule size in
-        let f = follows (placesOf t) cs (emptyHead rule size) t b (blank size) (record { tail = t; head-is = fresh-head rule size; table-is = refl; places-is = refl }) (fresh (placesOf t) rule size z)
-        (record { same-size = refl; weights = λ v. refl; births = λ o t. refl; same-last = refl; same-count = refl }) in
-        let k = back (placesOf t) _ _ _ (f .on) (f .ok) in
-        record {
-          in-turn = k ∙ f .in-turn;
-          vessel-sums = λ v. rw (ap (λ b. b .pieces) k) (f .beside .weights v);
-          birth-sums = λ o m. rw (ap (λ b. b .pieces) k) (f .beside .births o m);
-          even-count = rw (f .on .head-is) (omega (arith, f .count));
-          accepted-count = rw (f .on .head-is) (omega (arith, f .tally));
-          forecasts = λ h. f .forecasts (omega arith);
-          adds-up = adds (placesOf t) _ _ _ (f .on) (f .ok);
-        }
+    go zero z u = opened-demand rule size z t cs
     go (suc n) z u = absurd (omega arith)

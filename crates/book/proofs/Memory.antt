@@ -62,6 +62,14 @@ refused-on h t c n e nz = rw e (go n nz)
     go zero nz = absurd (nz refl)
     go (suc n) nz = refl
 
+pub refused-memory : (h : Head) (t : List ℕ) (c : Call) → ((callOn h t c) .number ≡ 0 → ⊥) → ((callOn h t c) .head ≡ h) × ((callOn h t c) .table ≡ t)
+unfolding callOn
+refused-memory h t c nz = go (numberOf h t c) nz
+  where
+    go : (n : ℕ) → ((outcome h t c n) .number ≡ 0 → ⊥) → ((outcome h t c n) .head ≡ h) × ((outcome h t c n) .table ≡ t)
+    go zero nz = absurd (nz refl)
+    go (suc n) nz = (refl, refl)
+
 -- the number of a call: checks 1 and 4, then its own
 pub number-split : (h : Head) (t : List ℕ) (c : Call)
     → numberOf h t c ≡ ifZero (first (bookChecks h t)) (first (callChecks (placesOf t) (bookOf h t) c)) (first (bookChecks h t))

@@ -11,7 +11,7 @@ pub const LAST_RULE: u32 = 3;
 pub const VESSELS: u32 = 64;
 
 // A head with this rule and this many vessels, and all other numbers 0.
-fn empty_head(rule: u32, vessels: u32) -> Head
+pub fn empty_head(rule: u32, vessels: u32) -> Head
     ensures { λ r. ⌜ r ≡ emptyHead rule vessels ⌝ }
 {
     Head {

@@ -12,7 +12,7 @@ use lib.ListN.{length, getD, take, drop, set, length-set, List·getD-eq-default}
 use lib.Seq.{sets, getD-drop, take-suc-set, take-set-le, set-out}
 use Rattle.table.specs.declared.Piece.{Piece}
 use Rattle.table.specs.Pieces.{noPiece}
-use Rattle.table.specs.Table.{piecesOf, flat, firstPiece, pieceIn, putIn, placesOf}
+use Rattle.table.specs.Table.{piecesOf, flat, firstPiece, over, pieceIn, putIn, placesOf}
 
 abbrev pub quad : ℕ → ℕ
 quad zero = zero
@@ -107,7 +107,7 @@ pieces-take zero n t h = refl
 pieces-take (suc j) zero t h = absurd (not-suc-le-zero h)
 pieces-take (suc j) (suc n) t h = ap (λ (l : List Piece). firstPiece t ∷ l) (pieces-take j n (drop 4 t) (le-of-suc-le-suc h))
 
-pub formed : (n : ℕ) (t : List ℕ) → 4 * n ≤ length t → t ≡ flat (piecesOf n t) ++ drop (4 * n) t
+pub formed : (n : ℕ) (t : List ℕ) → 4 * n ≤ length t → t ≡ over n (piecesOf n t) t
 formed n t room = split n t (rw quad-is at room) ∙ rw (← quad-is)
 
 -- a place that is not there

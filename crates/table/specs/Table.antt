@@ -24,13 +24,17 @@ flat (p ∷ ps) = p .holder ∷ p .origin ∷ p .birth ∷ p .weight ∷ flat ps
 abbrev pub lay : List Piece → List ℕ → List ℕ
 lay ps t = flat ps ++ drop (4 * length ps) t
 
+-- the table t with ps in place of its first n pieces
+abbrev pub over : ℕ → List Piece → List ℕ → List ℕ
+over n ps t = flat ps ++ drop (4 * n) t
+
 -- the piece at place i of n
 abbrev pub pieceIn : ℕ → List ℕ → ℕ → Piece
 pieceIn n t i = getD (piecesOf n t) i noPiece
 
 -- the table with piece p at place i of n
 abbrev pub putIn : ℕ → ℕ → Piece → List ℕ → List ℕ
-putIn n i p t = flat (set (piecesOf n t) i p) ++ drop (4 * n) t
+putIn n i p t = over n (set (piecesOf n t) i p) t
 
 -- "Places = table length divided by 4, rounded down, but never above 4,096."
 unfoldable pub placesOf : List ℕ → ℕ

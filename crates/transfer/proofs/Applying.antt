@@ -8,11 +8,13 @@ use native.Mathlib.Omega.{arith}
 use lib.ListN.{length, take, drop, length-append, length-set}
 use lib.Seq.{drop-drop}
 use Rattle.table.specs.declared.Piece.{Piece}
-use Rattle.table.specs.Table.{piecesOf, flat}
+use Rattle.table.specs.Table.{piecesOf, over}
 use Rattle.table.proofs.Table.{length-pieces, pieces-over, rest-over}
 use Rattle.transfer.specs.declared.selection.Order.{Order}
 use Rattle.transfer.specs.declared.plan.Plan.{Plan}
 use Rattle.transfer.specs.Plan.{placeOf, inOrder, stay, markAt, marked, reduced, outcome}
+use Rattle.transfer.specs.declared.Applied.{Applied}
+use Rattle.transfer.specs.Applied.{says}
 use Rattle.transfer.specs.Parts.{handedOver, Lifts, Follows, Gathers, Closes, Applicable, Applies}
 
 length-marked : (ks : List ℕ) (ps : List Piece) → length (marked ks ps) ≡ length ps
@@ -39,7 +41,8 @@ module _ (n s d u : ℕ) (o : Order) (r : Plan) (keys t : List ℕ) where
   long = length-marked gone (piecesOf n t) ∙ length-pieces n t
 
   -- lifting, and the remainder
-  pub gathers : (t₁ l₁ t₂ l₂ : List ℕ) (g : ℕ) → Lifts n (r .whole) d o keys t t₁ l₁ → Follows n s d u o r keys t₁ l₁ t₂ l₂ g → Gathers n s d u o r keys t t₂ l₂ g
+  pub gathers : (t₁ l₁ t₂ l₂ : List ℕ) (g : ℕ) → Lifts n (r .whole) d o keys t t₁ l₁ → Follows n s d u o r keys t₁ l₁ t₂ l₂ g
+      → Gathers n s d u o r keys t t₂ l₂ g
   gathers t₁ l₁ t₂ l₂ g lifts follows =
       let ps : piecesOf n t₁ ≡ marked gone (piecesOf n t) = ap (piecesOf n) (lifts .stands) ∙ pieces-over n _ (drop (4 * n) t) long in
       let rs : drop (4 * n) t₁ ≡ drop (4 * n) t = ap (drop (4 * n)) (lifts .stands) ∙ rest-over n _ (drop (4 * n) t) long in
@@ -70,11 +73,13 @@ module _ (n s d u : ℕ) (o : Order) (r : Plan) (keys t : List ℕ) where
       pub apply-count : j + g ≡ length result
       apply-count = let a : length (piecesOf j t₃ ++ piecesOf g l₂) ≡ j + g = simp (length-append, length-pieces) in sym a ∙ ap length all
 
-      pub apply-end : (t₄ : List ℕ) → t₄ ≡ flat (piecesOf j t₃ ++ piecesOf g l₂) ++ drop (4 * (j + g)) t₃ → Applies n s d u o r keys t t₄ (j + g)
-      apply-end t₄ e =
+      pub apply-end : (t₄ : List ℕ) → t₄ ≡ over (j + g) (piecesOf j t₃ ++ piecesOf g l₂) t₃ → (a : Applied) → a ≡ says o r (j + g)
+          → Applies n s d u o r keys t t₄ a
+      apply-end t₄ e a ea =
           let rest : j ≡ length (stay (piecesOf n t₂)) = sym (length-pieces j t₃) ∙ ap length (closes .stands) in
-          let sz : 4 * n + (4 * (j + g) - 4 * n) ≡ 4 * (j + g) = omega (arith, apply-gaps) in
+          let more : ℕ = 4 * (j + g) - 4 * n in
+          let sz : 4 * n + more ≡ 4 * (j + g) = omega (arith, apply-gaps) in
           let behind : drop (4 * n) t₃ ≡ drop (4 * n) t = closes .behind ∙ ap (drop (4 * n)) (gathered .stands) ∙ rest-over n _ (drop (4 * n) t) long₂ in
           let after : drop (4 * (j + g)) t₃ ≡ drop (4 * (j + g)) t =
-          rw (← sz) (sym (drop-drop (4 * (j + g) - 4 * n) (4 * n) t₃) ∙ ap (drop (4 * (j + g) - 4 * n)) behind ∙ drop-drop (4 * (j + g) - 4 * n) (4 * n) t) in
-          record { stands = e ∙ rw (all, after, apply-count); counts = apply-count }
+          rw (← sz) (sym (drop-drop more (4 * n) t₃) ∙ ap (drop more) behind ∙ drop-drop more (4 * n) t) in
+          record { stands = e ∙ rw (all, after, apply-count); answers = ea ∙ rw apply-count }

@@ -11,7 +11,7 @@ use lib.ListN.{length, getD, drop, drop-of-length-le}
 use lib.Seq.{drop-cons, drop-set-lt, paste, paste-zero, paste-suc, length-paste}
 use Rattle.table.specs.declared.Piece.{Piece}
 use Rattle.table.specs.Pieces.{noPiece}
-use Rattle.table.specs.Table.{piecesOf, flat, pieceIn, putIn}
+use Rattle.table.specs.Table.{piecesOf, over, pieceIn, putIn}
 use Rattle.table.proofs.Table.{length-pieces, pieces-over, rest-over, pieces-take, formed, put-pieces, put-behind, put-more, put-same}
 use Rattle.transfer.specs.Plan.{MARK, stay}
 use Rattle.transfer.specs.Parts.{Closes}
@@ -23,12 +23,14 @@ close-start n t = refl
 
 module _ (n i j : ℕ) (t : List ℕ) where
   pub close-next : (j′ : ℕ) (t′ : List ℕ) (z : List Piece) (p : Piece) → i < n → j ≤ i → p ≡ pieceIn n t i → t′ ≡ putIn n j p t
-      → j′ ≡ cond (eqb (p .holder) MARK) j (j + 1) → piecesOf j t ++ stay (drop i (piecesOf n t)) ≡ z → piecesOf j′ t′ ++ stay (drop (i + 1) (piecesOf n t′)) ≡ z
+      → j′ ≡ cond (eqb (p .holder) MARK) j (j + 1) → piecesOf j t ++ stay (drop i (piecesOf n t)) ≡ z
+      → piecesOf j′ t′ ++ stay (drop (i + 1) (piecesOf n t′)) ≡ z
   unfolding stay
   close-next j′ t′ z p h hj ep et ej e =
       let g : i < length (piecesOf n t) = rw length-pieces h in
       let f : piecesOf j t ++ stay (p ∷ drop (suc i) (piecesOf n t)) ≡ z = rw ep (rw (drop-cons (piecesOf n t) i noPiece g) at e) in
-      let r : drop (suc i) (piecesOf n t′) ≡ drop (suc i) (piecesOf n t) = ap (drop (suc i)) (put-pieces n j t t′ p et) ∙ drop-set-lt (suc i) (piecesOf n t) j p (omega arith) in
+      let r : drop (suc i) (piecesOf n t′) ≡ drop (suc i) (piecesOf n t) =
+      ap (drop (suc i)) (put-pieces n j t t′ p et) ∙ drop-set-lt (suc i) (piecesOf n t) j p (omega arith) in
       rw (ej, add-one i, r) (go (eqb (p .holder) MARK) f)
     where
       more : List Piece
@@ -41,7 +43,8 @@ module _ (n i j : ℕ) (t : List ℕ) where
   pub close-behind : (t₀ t′ : List ℕ) (p : Piece) → t′ ≡ putIn n j p t → drop (4 * n) t ≡ drop (4 * n) t₀ → drop (4 * n) t′ ≡ drop (4 * n) t₀
   close-behind t₀ t′ p et e = put-behind n j t t′ p et ∙ e
 
-  pub close-end : (t₀ : List ℕ) → n ≤ i → piecesOf j t ++ stay (drop i (piecesOf n t)) ≡ stay (piecesOf n t₀) → j ≤ i → i ≤ n → drop (4 * n) t ≡ drop (4 * n) t₀ → Closes n t₀ t j
+  pub close-end : (t₀ : List ℕ) → n ≤ i → piecesOf j t ++ stay (drop i (piecesOf n t)) ≡ stay (piecesOf n t₀) → j ≤ i → i ≤ n
+      → drop (4 * n) t ≡ drop (4 * n) t₀ → Closes n t₀ t j
   unfolding stay
   close-end t₀ h e hj hi eb = record {
     stands = sym (append-nil (piecesOf j t)) ∙ (rw (drop-of-length-le (piecesOf n t) {i = i} (rw length-pieces h)) at e);
@@ -59,10 +62,10 @@ no-gaps n whole t e z = record { stands = sym (stay-same (piecesOf n t) (omega (
 
 -- c of the lifted pieces are put behind the first j
 abbrev pub laid : ℕ → ℕ → List ℕ → List ℕ → ℕ → List ℕ
-laid j g t l c = flat (paste (piecesOf (j + g) t) j (piecesOf 4097 l) c) ++ drop (4 * (j + g)) t
+laid j g t l c = over (j + g) (paste (piecesOf (j + g) t) j (piecesOf 4097 l) c) t
 
 pub append-start : (j g : ℕ) (t l : List ℕ) → 4 * (j + g) ≤ length t → t ≡ laid j g t l 0
-append-start j g t l h = formed (j + g) t h ∙ ap (λ (ps : List Piece). flat ps ++ drop (4 * (j + g)) t) (paste-zero (piecesOf (j + g) t) j (piecesOf 4097 l))
+append-start j g t l h = formed (j + g) t h ∙ ap (λ (ps : List Piece). over (j + g) ps t) (paste-zero (piecesOf (j + g) t) j (piecesOf 4097 l))
 
 module _ (j g c : ℕ) (t₀ t l : List ℕ) (hg : g ≤ 4097) (e : t ≡ laid j g t₀ l c) where
   abbrev before : List Piece
@@ -78,9 +81,9 @@ module _ (j g c : ℕ) (t₀ t l : List ℕ) (hg : g ≤ 4097) (e : t ≡ laid j
       let lp : length (paste before j lifts c) ≡ j + g = length-paste before j lifts c (omega arith) (omega arith) ∙ lb in
       let ps : piecesOf (j + g) t ≡ paste before j lifts c = ap (piecesOf (j + g)) e ∙ pieces-over (j + g) _ (drop (4 * (j + g)) t₀) lp in
       let rs : drop (4 * (j + g)) t ≡ drop (4 * (j + g)) t₀ = ap (drop (4 * (j + g))) e ∙ rest-over (j + g) _ (drop (4 * (j + g)) t₀) lp in
-      et ∙ rw (ps, rs, ep, add-one) (ap (λ (ps : List Piece). flat ps ++ drop (4 * (j + g)) t₀) (paste-suc before j lifts c noPiece (omega arith) (omega arith)))
+      et ∙ rw (ps, rs, ep, add-one) (ap (λ (ps : List Piece). over (j + g) ps t₀) (paste-suc before j lifts c noPiece (omega arith) (omega arith)))
 
-  pub append-end : c ≤ g → g ≤ c → t ≡ flat (piecesOf j t₀ ++ piecesOf g l) ++ drop (4 * (j + g)) t₀
+  pub append-end : c ≤ g → g ≤ c → t ≡ over (j + g) (piecesOf j t₀ ++ piecesOf g l) t₀
   append-end h k =
       let ec : c ≡ g = omega arith in
       let no : drop (j + g) before ≡ [] = drop-of-length-le before {i = j + g} (let q = length-pieces (j + g) t₀ in omega arith) in

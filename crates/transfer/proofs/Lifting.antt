@@ -10,7 +10,7 @@ use lib.ListN.{length, getD, take, drop, length-take, drop-of-length-le}
 use lib.Seq.{drop-cons, getD-take}
 use Rattle.table.specs.declared.Piece.{Piece}
 use Rattle.table.specs.Pieces.{ofWeight, handTo}
-use Rattle.table.specs.Table.{piecesOf, flat, pieceIn, putIn}
+use Rattle.table.specs.Table.{piecesOf, over, pieceIn, putIn}
 use Rattle.table.proofs.Table.{length-pieces, rest-over, formed, put-pieces, put-more}
 use Rattle.transfer.specs.declared.selection.Order.{Order}
 use Rattle.transfer.specs.Plan.{placeOf, inOrder, mark, markAt, marked, picked}
@@ -40,9 +40,10 @@ abbrev goers : ℕ → Order → List ℕ → List ℕ
 goers whole o keys = take whole (inOrder o keys)
 
 pub record Lifting (o : Order) (n whole d c : ℕ) (keys t₀ t l : List ℕ) : Type 0 where
-  pub form : t ≡ flat (piecesOf n t) ++ drop (4 * n) t₀
+  pub form : t ≡ over n (piecesOf n t) t₀
   pub marks : marked (drop c (goers whole o keys)) (piecesOf n t) ≡ marked (goers whole o keys) (piecesOf n t₀)
-  pub picks : piecesOf c l ++ map (handTo d) (picked (drop c (goers whole o keys)) (piecesOf n t)) ≡ map (handTo d) (picked (goers whole o keys) (piecesOf n t₀))
+  pub picks : piecesOf c l ++ map (handTo d) (picked (drop c (goers whole o keys)) (piecesOf n t))
+      ≡ map (handTo d) (picked (goers whole o keys) (piecesOf n t₀))
 
 pub lift-start : (o : Order) (n whole d : ℕ) (keys t l : List ℕ) → 4 * n ≤ length t → Lifting o n whole d 0 keys t t l
 unfolding piecesOf
@@ -57,12 +58,13 @@ unfolding marked picked
 lift-next o n d c whole i keys t₀ t t′ l₀ l l′ room h ei et er s =
     let ks : List ℕ = inOrder o keys in
     let k : ℕ = getD (take whole ks) c 0 in
+    let next : List ℕ = drop (suc c) (take whole ks) in
     let long : length (take whole ks) ≡ whole = simp length-take (omega (arith, length-inOrder o keys (room .order) (room .memory))) in
-    let cons : drop c (take whole ks) ≡ k ∷ drop (suc c) (take whole ks) = drop-cons (take whole ks) c 0 (rw long h) in
+    let cons : drop c (take whole ks) ≡ k ∷ next = drop-cons (take whole ks) c 0 (rw long h) in
     let pl : placeOf k ≡ i = ap placeOf (getD-take whole ks c 0 h) ∙ sym ei in
     let ps : piecesOf n t′ ≡ markAt i (piecesOf n t) = put-pieces n i t t′ (mark (pieceIn n t i)) et in
-    let marks : marked (drop (suc c) (take whole ks)) (markAt (placeOf k) (piecesOf n t)) ≡ marked (take whole ks) (piecesOf n t₀) = rw cons at (s .marks) in
-    let picks : piecesOf c l ++ (handTo d (pieceIn n t (placeOf k)) ∷ map (handTo d) (picked (drop (suc c) (take whole ks)) (markAt (placeOf k) (piecesOf n t))))
+    let marks : marked next (markAt (placeOf k) (piecesOf n t)) ≡ marked (take whole ks) (piecesOf n t₀) = rw cons at (s .marks) in
+    let picks : piecesOf c l ++ (handTo d (pieceIn n t (placeOf k)) ∷ map (handTo d) (picked next (markAt (placeOf k) (piecesOf n t))))
     ≡ map (handTo d) (picked (take whole ks) (piecesOf n t₀)) = rw cons at (s .picks) in
     let more : piecesOf (c + 1) l′ ≡ piecesOf c l ++ (handTo d (pieceIn n t i) ∷ []) = put-more 4097 c l l′ _ er (omega arith) in
     record {
@@ -79,6 +81,6 @@ lift-end o n d c whole keys t₀ t l h g s =
     let gone : List ℕ = take whole (inOrder o keys) in
     let no : drop c gone ≡ [] = drop-of-length-le gone {i = c} (simp length-take (omega arith)) in
     record {
-      stands = s .form ∙ ap (λ (ps : List Piece). flat ps ++ drop (4 * n) t₀) (rw no at (s .marks));
+      stands = s .form ∙ ap (λ (ps : List Piece). over n ps t₀) (rw no at (s .marks));
       goes = ap (λ (k : ℕ). piecesOf k l) (sym e) ∙ sym (append-nil (piecesOf c l)) ∙ (rw no at (s .picks));
     }

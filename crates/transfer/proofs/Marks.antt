@@ -17,7 +17,8 @@ unfolding stay
 stay-append [] ys = refl
 stay-append (x ∷ xs) ys = go (eqb (x .holder) MARK) (stay-append xs ys)
   where
-    go : (t : Bool) → stay (xs ++ ys) ≡ stay xs ++ stay ys → cond t (stay (xs ++ ys)) (x ∷ stay (xs ++ ys)) ≡ cond t (stay xs) (x ∷ stay xs) ++ stay ys
+    go : (t : Bool) → stay (xs ++ ys) ≡ stay xs ++ stay ys
+        → cond t (stay (xs ++ ys)) (x ∷ stay (xs ++ ys)) ≡ cond t (stay xs) (x ∷ stay xs) ++ stay ys
     go true e = e
     go false e = ap (λ (l : List Piece). x ∷ l) e
 
@@ -41,6 +42,7 @@ unfolding stay
 stay-same [] e = refl
 stay-same (p ∷ ps) e = go (eqb (p .holder) MARK) e (stay-same ps)
   where
-    go : (c : Bool) → length (cond c (stay ps) (p ∷ stay ps)) ≡ suc (length ps) → (length (stay ps) ≡ length ps → stay ps ≡ ps) → cond c (stay ps) (p ∷ stay ps) ≡ p ∷ ps
+    go : (c : Bool) → length (cond c (stay ps) (p ∷ stay ps)) ≡ suc (length ps) → (length (stay ps) ≡ length ps → stay ps ≡ ps)
+        → cond c (stay ps) (p ∷ stay ps) ≡ p ∷ ps
     go true e i = absurd (omega (arith, stay-few ps))
     go false e i = ap (λ (l : List Piece). p ∷ l) (i (omega arith))

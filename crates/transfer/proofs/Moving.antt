@@ -19,7 +19,7 @@ use Rattle.transfer.specs.declared.plan.Plan.{Plan}
 use Rattle.transfer.specs.declared.Applied.{Applied}
 use Rattle.transfer.specs.Transfer.{Transfer, Taken, handed, taken}
 use Rattle.transfer.specs.Plan.{atKey, inOrder, halt, planFrom, splits, lacking, outcome, planned}
-use Rattle.transfer.specs.Applied.{full, refused, accepted, says, applied, leaves, Ready, Moves}
+use Rattle.transfer.specs.Applied.{full, refused, accepted, applied, leaves, Ready, Moves}
 use Rattle.transfer.specs.Parts.{Room, Ordered, Applicable, Applies}
 use Rattle.transfer.proofs.Keys.{length-inOrder}
 use Rattle.transfer.proofs.Planned.{taken-planned}
@@ -46,7 +46,8 @@ one-of w [] = omega arith
 one-of w (k ∷ ks) = omega arith
 
 -- a number that depends on whether a key is left after c of them
-by-next : (f : List ℕ → ℕ) (a : ℕ) → ((k : ℕ) (ks : List ℕ) → f (k ∷ ks) ≡ a) → (c : ℕ) (ks : List ℕ) → f (drop c ks) ≡ cond (ltb c (length ks)) a (f [])
+by-next : (f : List ℕ → ℕ) (a : ℕ) → ((k : ℕ) (ks : List ℕ) → f (k ∷ ks) ≡ a) → (c : ℕ) (ks : List ℕ)
+    → f (drop c ks) ≡ cond (ltb c (length ks)) a (f [])
 by-next f a h c ks = go (ltb c (length ks)) refl
   where
     go : (t : Bool) → ltb c (length ks) ≡ t → f (drop c ks) ≡ cond t a (f [])
@@ -74,9 +75,11 @@ module _ (n places rule : ℕ) (x : Transfer) (keys₀ spare t l : List ℕ) (re
 
   by-plan : taking ≡ outcome ks ps r
   unfolding planned
-  by-plan = taken-planned rule x ps (ready .unlike) (rw length-pieces (omega (arith, ready .pieces, ready .most))) (ready .unmarked) ∙ rw (plan, ordered .order)
+  by-plan =
+      let h : length ps ≤ 4096 = rw length-pieces (omega (arith, ready .pieces, ready .most)) in
+      taken-planned rule x ps (ready .unlike) h (ready .unmarked) ∙ rw (plan, ordered .order)
 
-  pub whole-most : r .whole ≤ o .count
+  whole-most : r .whole ≤ o .count
   whole-most = rw plan (omega (arith, length-order, plan-most ks 0 (x .weight) ps))
 
   rest : length (taking .rest) + taking .whole ≡ n
@@ -120,14 +123,13 @@ module _ (n places rule : ℕ) (x : Transfer) (keys₀ spare t l : List ℕ) (re
             record { rest = rw by-plan at rest; fits = rw by-plan at f },
           )
 
-      pub move-applied : (t′ : List ℕ) (count : ℕ) (a : Applied) → Applies n (x .source) (x .destination) (x .minute) o r keys t t′ count
-          → a ≡ says o r count
+      pub move-applied : (t′ : List ℕ) (a : Applied) → Applies n (x .source) (x .destination) (x .minute) o r keys t t′ a
           → Moves n places rule x t t′ a
       unfolding applied leaves
-      move-applied t′ count a done ea =
+      move-applied t′ a done =
           let v = rw length-order at (by-next (splits (r .left)) (min 1 (r .left)) (λ k ks. refl) (r .whole) ks) in
           let w = rw length-order at (by-next (lacking (r .left)) 0 (λ k ks. refl) (r .whole) ks) in
           record {
-            answer = ea ∙ rw (done .counts, ← v, ← w) (sym (rw free (ap (accepted x) by-plan)));
+            answer = done .answers ∙ rw (← v, ← w) (sym (rw free (ap (accepted x) by-plan)));
             table = done .stands ∙ sym (rw free (ap (λ (z : Taken). lay (handed x z) t) by-plan));
           }

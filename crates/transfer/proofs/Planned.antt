@@ -57,7 +57,8 @@ select-stay better s apart (p ∷ ms) = go (eqb (p .holder) MARK) refl (select-s
 abbrev Starts : Bool → Bool → ℕ → List Piece → Found → Type 0
 Starts old back s ms nothing = orderOf old back s 0 ms ≡ []
 Starts old back s ms (at b x a) =
-    (k : ℕ) × (ms ≡ b ++ (x ∷ a)) × (x .holder ≡ s) × (placeOf k ≡ length b) × (orderOf old back s 0 ms ≡ k ∷ orderOf old back s 0 (b ++ (mark x ∷ a)))
+    (k : ℕ) × (ms ≡ b ++ (x ∷ a)) × (x .holder ≡ s) × (placeOf k ≡ length b)
+    × (orderOf old back s 0 ms ≡ k ∷ orderOf old back s 0 (b ++ (mark x ∷ a)))
 
 starts : (old back : Bool) (s : ℕ) → s ≢ MARK → (ms : List Piece) → length ms ≤ 4096 → Starts old back s ms (select (prefers old back) s ms)
 starts old back s apart ms h = go back (select (prefers old back) s ms) (picks-first old s apart back 0 ms (omega arith))

@@ -7,9 +7,11 @@ use Prim.Native.Nat.{ℕ, _+_, _*_, _≤_}
 use lib.ListN.{length, take, drop}
 use Rattle.table.specs.declared.Piece.{Piece}
 use Rattle.table.specs.Pieces.{handTo, ifAny}
-use Rattle.table.specs.Table.{piecesOf, flat, lay}
+use Rattle.table.specs.Table.{piecesOf, lay, over}
 use Rattle.transfer.specs.Transfer.{Taken, handed}
 use Rattle.transfer.specs.Plan.{byBirth, backwards, orderOf, inOrder, stay, marked, picked, reduced, part, lacking, outcome}
+use Rattle.transfer.specs.Applied.{says}
+use Rattle.transfer.specs.declared.Applied.{Applied}
 use Rattle.transfer.specs.declared.selection.Order.{Order}
 use Rattle.transfer.specs.declared.plan.Plan.{Plan}
 
@@ -34,19 +36,19 @@ handedOver s d u r = handed (record { source = s; destination = d; minute = u; w
 
 -- The first pieces of the order are lifted: marked in the table, and copied with holder d.
 pub record Lifts (n whole d : ℕ) (o : Order) (keys t t′ l′ : List ℕ) : Type 0 where
-  pub stands : t′ ≡ flat (marked (take whole (inOrder o keys)) (piecesOf n t)) ++ drop (4 * n) t
+  pub stands : t′ ≡ over n (marked (take whole (inOrder o keys)) (piecesOf n t)) t
   pub goes : piecesOf whole l′ ≡ map (handTo d) (picked (take whole (inOrder o keys)) (piecesOf n t))
 
 -- What follows the whole ones is put behind them: the part of a split, what is born, or nothing. Then g pieces are lifted.
 pub record Follows (n s d u : ℕ) (o : Order) (r : Plan) (keys t l t′ l′ : List ℕ) (g : ℕ) : Type 0 where
-  pub stands : t′ ≡ flat (reduced (r .left) (drop (r .whole) (inOrder o keys)) (piecesOf n t)) ++ drop (4 * n) t
+  pub stands : t′ ≡ over n (reduced (r .left) (drop (r .whole) (inOrder o keys)) (piecesOf n t)) t
   pub goes : piecesOf g l′ ≡ piecesOf (r .whole) l ++ (map (handTo d) (part (r .left) (drop (r .whole) (inOrder o keys)) (piecesOf n t))
       ++ ifAny (record { holder = d; origin = s; birth = u; weight = lacking (r .left) (drop (r .whole) (inOrder o keys)) }))
   pub most : g ≤ 4097
 
 -- Both: all that the plan takes is lifted.
 pub record Gathers (n s d u : ℕ) (o : Order) (r : Plan) (keys t t′ l′ : List ℕ) (g : ℕ) : Type 0 where
-  pub stands : t′ ≡ flat (reduced (r .left) (drop (r .whole) (inOrder o keys)) (marked (take (r .whole) (inOrder o keys)) (piecesOf n t))) ++ drop (4 * n) t
+  pub stands : t′ ≡ over n (reduced (r .left) (drop (r .whole) (inOrder o keys)) (marked (take (r .whole) (inOrder o keys)) (piecesOf n t))) t
   pub goes : piecesOf g l′ ≡ map (handTo d) (outcome (inOrder o keys) (piecesOf n t) r .given)
       ++ ifAny (record { holder = d; origin = s; birth = u; weight = outcome (inOrder o keys) (piecesOf n t) r .born })
   pub least : r .whole ≤ g
@@ -63,7 +65,7 @@ pub record Applicable (n s d u : ℕ) (o : Order) (r : Plan) (keys t : List ℕ)
   pub rest : length (outcome (inOrder o keys) (piecesOf n t) r .rest) + r .whole ≡ n
   pub fits : 4 * length (handedOver s d u (outcome (inOrder o keys) (piecesOf n t) r)) ≤ length t
 
--- It is applied.
-pub record Applies (n s d u : ℕ) (o : Order) (r : Plan) (keys t t′ : List ℕ) (count : ℕ) : Type 0 where
+-- It is applied, and this is the answer.
+pub record Applies (n s d u : ℕ) (o : Order) (r : Plan) (keys t t′ : List ℕ) (a : Applied) : Type 0 where
   pub stands : t′ ≡ lay (handedOver s d u (outcome (inOrder o keys) (piecesOf n t) r)) t
-  pub counts : count ≡ length (handedOver s d u (outcome (inOrder o keys) (piecesOf n t) r))
+  pub answers : a ≡ says o r (length (handedOver s d u (outcome (inOrder o keys) (piecesOf n t) r)))

@@ -4,11 +4,13 @@ ghost use mathlib.Core.Bool.{cond};
 ghost use mathlib.Core.List.{_++_};
 ghost use Prim.Native.Nat.{_<_, _≤_, _+_, _-_, _*_};
 ghost use lib.Dec.{eqb};
-ghost use lib.ListN.{length, drop};
+ghost use lib.ListN.{length};
 ghost use Rattle.table.specs.Pieces.{ofWeight, handTo};
-ghost use Rattle.table.specs.Table.{piecesOf, flat, pieceIn, putIn};
+ghost use Rattle.table.specs.Table.{piecesOf, over, pieceIn, putIn};
 ghost use Rattle.transfer.specs.Plan.{MARK, stay};
+ghost use Rattle.transfer.specs.Applied.{says};
 ghost use Rattle.transfer.specs.Parts.{Room, Lifts, Follows, Gathers, Closes, Applicable, Applies};
+use super::Applied;
 use super::plan::Plan;
 use super::selection::Order;
 use super::selection::nth;
@@ -196,7 +198,7 @@ fn close_gaps(table: &mut [u32], n: usize, whole: usize) -> usize
 // The first g lifted pieces are put at place j and on.
 fn append(table: &mut [u32], j: usize, lifted: &[u32], g: usize)
     requires { ⌜ (j ≤ 4096) × (g ≤ 4097) × (4 * (j + g) ≤ length (now table)) × (4 * 4097 ≤ length (now lifted)) ⌝ }
-    ensures { λ _. ⌜ now (table .exit) ≡ flat (piecesOf j (now (table .entry)) ++ piecesOf g (now (lifted .entry))) ++ drop (4 * (j + g)) (now (table .entry)) ⌝ }
+    ensures { λ _. ⌜ now (table .exit) ≡ over (j + g) (piecesOf j (now (table .entry)) ++ piecesOf g (now (lifted .entry))) (now (table .entry)) ⌝ }
 {
     let n = j + g;
     let mut c: usize = 0;
@@ -207,7 +209,40 @@ fn append(table: &mut [u32], j: usize, lifted: &[u32], g: usize)
     }
 }
 
-// The plan is applied; the answer is the count of pieces.
+// The answer where the plan was applied and leaves so many pieces.
+fn answer(order: Order, plan: Plan, count: usize) -> Applied
+    requires { ⌜ (plan .whole ≤ order .count) × (order .count ≤ 4096) ⌝ }
+    ensures { λ r. ⌜ r ≡ says order plan count ⌝ }
+{
+    let whole = plan.whole as u32;
+    if plan.whole < order.count {
+        if plan.left == 0 {
+            return Applied {
+                full: false,
+                whole: whole,
+                split: 0,
+                born: 0,
+                count: count,
+            };
+        }
+        return Applied {
+            full: false,
+            whole: whole,
+            split: 1,
+            born: 0,
+            count: count,
+        };
+    }
+    Applied {
+        full: false,
+        whole: whole,
+        split: 0,
+        born: plan.left,
+        count: count,
+    }
+}
+
+// The plan is applied.
 pub fn apply(
     table: &mut [u32],
     n: usize,
@@ -218,8 +253,9 @@ pub fn apply(
     destination: u32,
     minute: u32,
     lifted: &mut [u32],
-) -> usize
-    requires { ⌜ Room n (plan .whole) order (now keys) (now table) (now lifted) × Applicable n source destination minute order plan (now keys) (now table) ⌝ }
+) -> Applied
+    requires { ⌜ Room n (plan .whole) order (now keys) (now table) (now lifted)
+        × Applicable n source destination minute order plan (now keys) (now table) ⌝ }
     ensures { λ r. ⌜ Applies n source destination minute order plan (now (keys .entry)) (now (table .entry)) (now (table .exit)) r ⌝ }
 {
     let g = gather(
@@ -235,5 +271,5 @@ pub fn apply(
     );
     let j = close_gaps(table, n, plan.whole);
     append(table, j, lifted, g);
-    j + g
+    answer(order, plan, j + g)
 }

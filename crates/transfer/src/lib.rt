@@ -1,11 +1,7 @@
 // The pieces part of a transfer, in a constant number of passes over the table: the source's pieces are put in picking order, a plan
 // is made, and only if there is room for what it leaves is it applied.
-ghost use mathlib.Core.Path.{_≡_};
-ghost use Prim.Native.Nat.{_≤_};
 ghost use Rattle.transfer.specs.Transfer.{Transfer};
-ghost use Rattle.transfer.specs.Applied.{says, Ready, Moves};
-use plan::Plan;
-use selection::Order;
+ghost use Rattle.transfer.specs.Applied.{Ready, Moves};
 
 pub mod apply;
 pub mod plan;
@@ -18,39 +14,6 @@ pub struct Applied {
     pub split: u32,
     pub born: u32,
     pub count: usize,
-}
-
-// The answer where the plan was applied and leaves so many pieces.
-fn answer(order: Order, plan: Plan, count: usize) -> Applied
-    requires { ⌜ (plan .whole ≤ order .count) × (order .count ≤ 4096) ⌝ }
-    ensures { λ r. ⌜ r ≡ says order plan count ⌝ }
-{
-    let whole = plan.whole as u32;
-    if plan.whole < order.count {
-        if plan.left == 0 {
-            return Applied {
-                full: false,
-                whole: whole,
-                split: 0,
-                born: 0,
-                count: count,
-            };
-        }
-        return Applied {
-            full: false,
-            whole: whole,
-            split: 1,
-            born: 0,
-            count: count,
-        };
-    }
-    Applied {
-        full: false,
-        whole: whole,
-        split: 0,
-        born: plan.left,
-        count: count,
-    }
 }
 
 // Moves weight from source to destination under the rule, and says what was done. If the pieces afterwards would exceed the places,
@@ -82,7 +45,7 @@ pub fn move_pieces(
             count: n,
         };
     }
-    let count = apply::apply(
+    apply::apply(
         table,
         n,
         keys,
@@ -92,6 +55,5 @@ pub fn move_pieces(
         destination,
         minute,
         lifted,
-    );
-    answer(order, plan, count)
+    )
 }

@@ -2,8 +2,7 @@
 -- plan leaves is what is asked (proofs/Moving.antt).
 -- Assumes nothing.
 use borrow.Author.Needs.{needs}
-use Rattle.transfer.specs.Transfer.{Transfer}
-use Rattle.transfer.proofs.Moving.{whole-most, move-refused, move-ready, move-applied}
+use Rattle.transfer.proofs.Moving.{move-refused, move-ready, move-applied}
 use Rattle.transfer.proofs.move_pieces.Statement.{statement}
 use Rattle.transfer.proofs.move_pieces.Tie as tie
 
@@ -37,17 +36,6 @@ apply-requires c κs =
     let s = o .before .before .before .before .before .before .before .before in
     move-ready _ _ _ _ _ _ _ _ (s .pre) _ _ (o .picking-order .ensures) _ (p .plan-of .ensures) _ (f .is-full .ensures) (e .if1 .left)
 
-answer-requires : tie.Need-answer-requires
-answer-requires c κs =
-    let e = c .before .before .before .before .before .before .before .before in
-    let f = e .before in
-    let p = f .before in
-    let o = p .before .before .before .before .before .before .before in
-    let s = o .before .before .before .before .before .before .before .before in
-    let x : Transfer = record { source = s .args .source; destination = s .args .destination; minute = s .args .minute; weight = s .args .weight } in
-    let h = whole-most _ _ _ x _ _ _ _ (s .pre) _ _ (o .picking-order .ensures) _ (p .plan-of .ensures) in
-    search needs
-
 same-length-4 : tie.Need-same-length-4
 same-length-4 c = search needs
 
@@ -62,13 +50,13 @@ same-length-7 c = search needs
 
 returns-2 : tie.Need-returns-2
 returns-2 c =
-    let a = c .before .before .before .before .before in
+    let a = c .before .before .before .before in
     let e = a .before .before .before .before in
     let f = e .before in
     let p = f .before in
     let o = p .before .before .before .before .before .before .before in
     let s = o .before .before .before .before .before .before .before .before in
-    move-applied _ _ _ _ _ _ _ _ (s .pre) _ _ (o .picking-order .ensures) _ (p .plan-of .ensures) _ (f .is-full .ensures) (e .if1 .left) _ _ _ (a .apply .ensures) (c .answer .ensures)
+    move-applied _ _ _ _ _ _ _ _ (s .pre) _ _ (o .picking-order .ensures) _ (p .plan-of .ensures) _ (f .is-full .ensures) (e .if1 .left) _ _ (a .apply .ensures)
 
 pub move-pieces-spec : {M : Type 1} → statement M
 move-pieces-spec =
@@ -82,7 +70,6 @@ move-pieces-spec =
     same-length-3
     returns
     apply-requires
-    answer-requires
     same-length-4
     same-length-5
     same-length-6

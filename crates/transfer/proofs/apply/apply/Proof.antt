@@ -20,8 +20,11 @@ append-requires c κs =
     let e = apply-count _ _ _ _ _ _ _ _ can _ _ _ (o .gather .ensures) _ _ (k .close-gaps .ensures) in
     (search needs, search needs, omega (arith, e, can .fits), search needs)
 
-add-result : tie.Need-add-result
-add-result c = search needs
+add-answer : tie.Need-add-answer
+add-answer c = search needs
+
+answer-requires : tie.Need-answer-requires
+answer-requires c κs = search needs
 
 same-length : tie.Need-same-length
 same-length c = search needs
@@ -31,11 +34,11 @@ same-length-2 c = search needs
 
 returns : tie.Need-returns
 returns c =
-    let a = c .before .before in
+    let a = c .before .before .before in
     let k = a .before .before .before .before .before in
     let o = k .before .before .before .before .before .before in
     let can = o .before .before .before .before .before .before .pre .1 in
-    apply-end _ _ _ _ _ _ _ _ can _ _ _ (o .gather .ensures) _ _ (k .close-gaps .ensures) _ (a .append .ensures)
+    apply-end _ _ _ _ _ _ _ _ can _ _ _ (o .gather .ensures) _ _ (k .close-gaps .ensures) _ (a .append .ensures) _ (c .answer .ensures)
 
 pub apply-spec : {M : Type 1} → statement M
 apply-spec =
@@ -44,7 +47,8 @@ apply-spec =
     gather-requires
     close-gaps-requires
     append-requires
-    add-result
+    add-answer
+    answer-requires
     same-length
     same-length-2
     returns)

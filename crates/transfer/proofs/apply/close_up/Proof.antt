@@ -12,7 +12,9 @@ use Rattle.transfer.proofs.apply.close_up.Statement.{statement}
 use Rattle.transfer.proofs.apply.close_up.Tie as tie
 
 abbrev Inv-loop : tie.InvT-loop
-Inv-loop table₀ n j₀ i₀ table j i = (piecesOf j table ++ stay (drop i (piecesOf n table)) ≡ stay (piecesOf n table₀)) × (j ≤ i) × (i ≤ n) × (drop (4 * n) table ≡ drop (4 * n) table₀) × (length table ≡ length table₀)
+Inv-loop table₀ n j₀ i₀ table j i =
+    (piecesOf j table ++ stay (drop i (piecesOf n table)) ≡ stay (piecesOf n table₀))
+    × (j ≤ i) × (i ≤ n) × (drop (4 * n) table ≡ drop (4 * n) table₀) × (length table ≡ length table₀)
 
 abbrev μ-loop : tie.MeasureT-loop
 μ-loop table₀ n j₀ i₀ table j i = n - i

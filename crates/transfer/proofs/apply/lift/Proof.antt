@@ -9,7 +9,9 @@ use Rattle.transfer.proofs.apply.lift.Statement.{statement}
 use Rattle.transfer.proofs.apply.lift.Tie as tie
 
 abbrev Inv-loop : tie.InvT-loop
-Inv-loop table₀ n keys order whole destination lifted₀ c₀ table lifted c = Lifting order n whole destination c keys table₀ table lifted × (c ≤ whole) × (length table ≡ length table₀) × (length lifted ≡ length lifted₀)
+Inv-loop table₀ n keys order whole destination lifted₀ c₀ table lifted c =
+    Lifting order n whole destination c keys table₀ table lifted
+    × (c ≤ whole) × (length table ≡ length table₀) × (length lifted ≡ length lifted₀)
 
 abbrev μ-loop : tie.MeasureT-loop
 μ-loop table₀ n keys order whole destination lifted₀ c₀ table lifted c = whole - c
@@ -33,7 +35,10 @@ loop-again : tie.Need-loop-again Inv-loop μ-loop
 loop-again c =
     let o = c .before .before .before .before in
     let e = o .before .before .before in
-    (lift-next _ _ _ _ _ _ _ _ _ _ _ _ _ (e .before .before .before .before .before .before .pre) (e .before .loop-test .taken) (e .nth .ensures) (o .lift-one .ensures .0) (o .lift-one .ensures .1) (e .before .before .loop .inv .0), search needs, search needs, search needs)
+    let room = e .before .before .before .before .before .before .pre in
+    let kept = e .before .before .loop .inv .0 in
+    let one = o .lift-one .ensures in
+    (lift-next _ _ _ _ _ _ _ _ _ _ _ _ _ room (e .before .loop-test .taken) (e .nth .ensures) (one .0) (one .1) kept, search needs, search needs, search needs)
 
 same-length : tie.Need-same-length Inv-loop μ-loop
 same-length c = search needs

@@ -1,12 +1,12 @@
--- `answer` meets its contract: the three returns are the cases of the definition.
+-- `apply::answer` meets its contract: the three returns are the cases of the definition.
 -- Assumes nothing.
+use borrow.Author.Needs.{needs}
 use mathlib.Core.Path.{_≡_}
 use Prim.Native.Nat.{ℕ, min}
 use native.Mathlib.Omega.{arith}
-use borrow.Author.Needs.{needs}
 use Rattle.table.proofs.Tests.{tests}
-use Rattle.transfer.proofs.answer.Statement.{statement}
-use Rattle.transfer.proofs.answer.Tie as tie
+use Rattle.transfer.proofs.apply.answer.Statement.{statement}
+use Rattle.transfer.proofs.apply.answer.Tie as tie
 
 min-zero : (w : ℕ) → w ≡ 0 → min 1 w ≡ 0
 min-zero w e = omega arith

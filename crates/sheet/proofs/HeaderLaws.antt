@@ -1,0 +1,89 @@
+-- Laws of the header: what each check tells once it is passed, and the number at each way out. Assumes nothing.
+use Prim.Native.Nat.{ℕ, _≤_}
+use native.Mathlib.Omega.{arith}
+use mathlib.Core.Path.{_≡_, refl, sym, ap, _∙_}
+use mathlib.Core.Bool.{Bool, true, false, not}
+use mathlib.Core.List.{List, [], _∷_, _++_}
+use borrow.Author.Tests.{ltb-false, eq-eqb, ne-eqb, le-ltb}
+use lib.Dec.{eqb, ltb}
+use lib.ListN.{length, take, drop}
+use Rattle.refusal.specs.Numbers.{_if_, first}
+use Rattle.refusal.proofs.Numbers.{passed}
+use Rattle.sheet.specs.Bytes.{valueIn, equal}
+use Rattle.sheet.specs.Sheet.{leastVessels, vesselsOff, mostVessels, headerSize, sheetSize, entriesStart, mark, ruleOf, vesselsOf, movementsOf, noSheet, outside, openChecks, layoutOff, fieldChecks, headerChecks}
+use Rattle.sheet.proofs.ByteLaws.{is-equal}
+use Rattle.sheet.proofs.CheckLaws.{neither, refuses, passes}
+
+pub unmarked : (s letters : List ℕ) (r : Bool) → headerSize ≤ length s → letters ≡ mark → (r ≡ true → take 4 s ≡ letters) → (take 4 s ≡ letters → r ≡ true) → not r ≡ noSheet s
+unfolding noSheet
+unmarked s letters r h e f g = rw (le-ltb _ _ h, ← e) (ap not (is-equal (take 4 s) letters r f g))
+
+pub sheet-holds : (s : List ℕ) (k : ℕ) (r : Bool) → r ≡ noSheet s → r ≡ false → k ≤ headerSize → k ≤ length s
+unfolding noSheet
+sheet-holds s k r e q h =
+    omega (arith, ltb-false (length s) headerSize (neither (ltb (length s) headerSize) (not (equal (take 4 s) mark)) (sym e ∙ q) .0))
+
+pub inside : (least most n : ℕ) (r : Bool) → r ≡ outside least most n → r ≡ false → (least ≤ n) × (n ≤ most)
+unfolding outside
+inside least most n r e q =
+    let h = neither (ltb n least) (ltb most n) (sym e ∙ q) in
+    (ltb-false _ _ (h .0), ltb-false _ _ (h .1))
+
+pub at-most : (least most n : ℕ) (r : Bool) → r ≡ outside least most n → r ≡ false → n ≤ most
+at-most least most n r e q = inside least most n r e q .1
+
+pub few-vessels : (rule vessels n : ℕ) → n ≡ first (openChecks rule vessels) → n ≡ 0 → vessels ≤ mostVessels
+few-vessels rule vessels n e z = at-most leastVessels mostVessels vessels false (sym (passed (openChecks rule vessels) tt (sym e ∙ z) .1 .0)) refl
+
+-- the ways out of `layout_off`
+module _ (s : List ℕ) (vessels movements names : ℕ) (en : names ≡ valueIn 4 (drop 12 s)) where
+  pub names-elsewhere : (names ≡ headerSize → ⊥) → true ≡ layoutOff vessels movements s
+  unfolding layoutOff
+  names-elsewhere h = rw (← en, ne-eqb _ _ h)
+
+  module _ (start : ℕ) (es : start ≡ valueIn 4 (drop 16 s)) (hn : names ≡ headerSize) where
+    pub entries-elsewhere : (start ≡ entriesStart vessels → ⊥) → true ≡ layoutOff vessels movements s
+    unfolding layoutOff
+    entries-elsewhere h = rw (← en, ← es, eq-eqb _ _ hn, ne-eqb _ _ h)
+
+    module _ (size : ℕ) (el : size ≡ valueIn 4 (drop 20 s)) (hs : start ≡ entriesStart vessels) where
+      pub other-length : (size ≡ sheetSize vessels movements → ⊥) → true ≡ layoutOff vessels movements s
+      unfolding layoutOff
+      other-length h = rw (← en, ← es, ← el, eq-eqb _ _ hn, eq-eqb _ _ hs, ne-eqb _ _ h)
+
+      pub real-length : size ≡ sheetSize vessels movements → not (eqb (length s) (sheetSize vessels movements)) ≡ layoutOff vessels movements s
+      unfolding layoutOff
+      real-length h = rw (← en, ← es, ← el, eq-eqb _ _ hn, eq-eqb _ _ hs, eq-eqb _ _ h)
+
+-- the two ways out of `open_number` behind the rule
+module _ (rule vessels : ℕ) (r : Bool) (h : rule ≤ 3) (e : r ≡ vesselsOff vessels) where
+  pub out-vessels : r ≡ true → 3 ≡ first (openChecks rule vessels)
+  out-vessels q = rw (le-ltb _ _ h, ← e, q)
+
+  pub out-opens : r ≡ false → 0 ≡ first (openChecks rule vessels)
+  out-opens q = rw (le-ltb _ _ h, ← e, q)
+
+-- the ways out of two checks behind those of the rule and the vessels: of the reader's and of the writer's counts
+module _ (rule vessels n p q : ℕ) (b d : Bool) (en : n ≡ first (openChecks rule vessels)) where
+  pub out-open : (n ≡ 0 → ⊥) → n ≡ first (openChecks rule vessels ++ (p if b) ∷ (q if d) ∷ [])
+  out-open h = refuses (openChecks rule vessels) ((p if b) ∷ (q if d) ∷ []) tt n en h
+
+  module _ (z : n ≡ 0) (x : Bool) (ex : x ≡ b) where
+    pub out-one : x ≡ true → p ≡ first (openChecks rule vessels ++ (p if b) ∷ (q if d) ∷ [])
+    out-one t = passes (openChecks rule vessels) ((p if b) ∷ (q if d) ∷ []) tt n p en z (rw (← ex, t))
+
+    module _ (f : x ≡ false) (y : Bool) (ey : y ≡ d) where
+      pub out-two : y ≡ true → q ≡ first (openChecks rule vessels ++ (p if b) ∷ (q if d) ∷ [])
+      out-two t = passes (openChecks rule vessels) ((p if b) ∷ (q if d) ∷ []) tt n q en z (rw (← ex, f, ← ey, t))
+
+      pub out-none : y ≡ false → 0 ≡ first (openChecks rule vessels ++ (p if b) ∷ (q if d) ∷ [])
+      out-none t = passes (openChecks rule vessels) ((p if b) ∷ (q if d) ∷ []) tt n 0 en z (rw (← ex, f, ← ey, t))
+
+-- the ways out of `header_number`
+pub out-no-sheet : (s : List ℕ) (a : Bool) → a ≡ noSheet s → a ≡ true → 14 ≡ first (headerChecks s)
+out-no-sheet s a e q = rw (← e, q)
+
+pub out-fields : (s : List ℕ) (a : Bool) (rule vessels movements n : ℕ) → a ≡ noSheet s → a ≡ false
+    → rule ≡ ruleOf s → vessels ≡ vesselsOf s → movements ≡ movementsOf s
+    → n ≡ first (fieldChecks rule vessels movements s) → n ≡ first (headerChecks s)
+out-fields s a rule vessels movements n e q er ev em en = rw (← e, q, ← er, ← ev, ← em) en

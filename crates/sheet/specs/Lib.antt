@@ -1,0 +1,7 @@
+pub mod Bytes
+pub mod Names
+pub mod Movements
+pub mod Sheet
+pub mod Answers
+pub mod Writing
+pub mod Run

@@ -1,0 +1,31 @@
+// The sizes and limits of a sheet, and where the fields of its header lie.
+
+pub const HEADER_SIZE: usize = 24; // bytes of the header
+
+pub const NAME_SIZE: usize = 8; // bytes of a name
+
+pub const ENTRY_SIZE: usize = 12; // bytes of a movement
+
+pub const GIVEN_SIZE: usize = 4; // numbers that the writer is given for a movement: s, d, t, q
+
+pub const MOST_RULE: u32 = 3;
+
+pub const LEAST_VESSELS: usize = 1;
+
+pub const MOST_VESSELS: usize = 64;
+
+pub const LEAST_MOVEMENTS: usize = 1;
+
+pub const MOST_MOVEMENTS: usize = 4096;
+
+pub const RULE_AT: usize = 4;
+
+pub const VESSELS_AT: usize = 6;
+
+pub const MOVEMENTS_AT: usize = 8;
+
+pub const NAMES_AT: usize = 12;
+
+pub const ENTRIES_AT: usize = 16;
+
+pub const LENGTH_AT: usize = 20;
