@@ -1,0 +1,127 @@
+// The library for C and Rust: every public call under a name of its own. include/lumchaki.h declares them.
+// A slice passes as a pointer and a length. Each contract is the one of the call behind it.
+ghost use mathlib.Core.Path.{_≡_};
+ghost use lib.ListN.{length};
+ghost use Rattle.book.specs.Head.{opening};
+ghost use Rattle.book.specs.Reports.{heldBy, spread, whole};
+ghost use Rattle.book.specs.Calls.{move, ask};
+ghost use Rattle.book.specs.Memory.{transferOf, transferred, reported, callOn};
+ghost use Rattle.sheet.specs.Answers.{reading, movementAsked, nameNumber, nameAsked};
+ghost use Rattle.sheet.specs.Writing.{writeNumber, written};
+ghost use Rattle.sheet.specs.Run.{running};
+use book::Head;
+use book::Opened;
+use book::Reported;
+use book::Transferred;
+use sheet::answer::Movement;
+use sheet::answer::Ran;
+use sheet::answer::Reading;
+
+#[no_mangle]
+pub extern "C" fn lumchaki_open(rule: u32, vessels: u32) -> Opened
+    ensures { λ r. ⌜ r ≡ opening rule vessels ⌝ }
+{
+    book::opening::open(rule, vessels)
+}
+
+#[no_mangle]
+pub extern "C" fn lumchaki_transfer(
+    head: Head,
+    table: &mut [u32],
+    source: u32,
+    destination: u32,
+    minute: u32,
+    weight: u32,
+) -> Transferred
+    ensures { λ r. ⌜ (r ≡ transferred (callOn head (now (table .entry)) (move (transferOf source destination minute weight))))
+        × (now (table .exit) ≡ (callOn head (now (table .entry)) (move (transferOf source destination minute weight))) .table) ⌝ }
+{
+    book::transfers::transfer(head, table, source, destination, minute, weight)
+}
+
+#[no_mangle]
+pub extern "C" fn lumchaki_held(
+    head: Head,
+    table: &[u32],
+    vessel: u32,
+    report: &mut [u32],
+) -> Reported
+    ensures { λ r. ⌜ (r ≡ reported (callOn head (now (table .entry)) (ask (heldBy vessel) (now (report .entry)))))
+        × (now (report .exit) ≡ (callOn head (now (table .entry)) (ask (heldBy vessel) (now (report .entry)))) .room) ⌝ }
+{
+    book::reports::held(head, table, vessel, report)
+}
+
+#[no_mangle]
+pub extern "C" fn lumchaki_spread(
+    head: Head,
+    table: &[u32],
+    origin: u32,
+    from: u32,
+    to: u32,
+    report: &mut [u32],
+) -> Reported
+    ensures { λ r. ⌜ (r ≡ reported (callOn head (now (table .entry)) (ask (spread origin from to) (now (report .entry)))))
+        × (now (report .exit) ≡ (callOn head (now (table .entry)) (ask (spread origin from to) (now (report .entry)))) .room) ⌝ }
+{
+    book::reports::spread(head, table, origin, from, to, report)
+}
+
+#[no_mangle]
+pub extern "C" fn lumchaki_whole(head: Head, table: &[u32], report: &mut [u32]) -> Reported
+    ensures { λ r. ⌜ (r ≡ reported (callOn head (now (table .entry)) (ask whole (now (report .entry)))))
+        × (now (report .exit) ≡ (callOn head (now (table .entry)) (ask whole (now (report .entry)))) .room) ⌝ }
+{
+    book::reports::whole(head, table, report)
+}
+
+#[no_mangle]
+pub extern "C" fn lumchaki_read(sheet: &[u8]) -> Reading
+    ensures { λ r. ⌜ r ≡ reading (now (sheet .entry)) ⌝ }
+{
+    sheet::read(sheet)
+}
+
+#[no_mangle]
+pub extern "C" fn lumchaki_movement(sheet: &[u8], index: u32) -> Movement
+    ensures { λ r. ⌜ r ≡ movementAsked (now (sheet .entry)) index ⌝ }
+{
+    sheet::movement(sheet, index)
+}
+
+// An exported function returns no reference: the name is the part of this length that starts at byte 24 + 8 × vessel of the sheet.
+#[no_mangle]
+pub extern "C" fn lumchaki_name(sheet: &[u8], vessel: u32) -> usize
+    ensures { λ r. ⌜ r ≡ length (nameAsked (now (sheet .entry)) vessel) ⌝ }
+{
+    let name = sheet::name(sheet, vessel);
+    name.len()
+}
+
+#[no_mangle]
+pub extern "C" fn lumchaki_name_number(sheet: &[u8], vessel: u32) -> u32
+    ensures { λ r. ⌜ r ≡ nameNumber (now (sheet .entry)) vessel ⌝ }
+{
+    sheet::name_number(sheet, vessel)
+}
+
+#[no_mangle]
+pub extern "C" fn lumchaki_write(
+    rule: u32,
+    vessels: u32,
+    names: &[u8],
+    numbers: &[u32],
+    out: &mut [u8],
+) -> u32
+    ensures number { λ r. ⌜ r ≡ writeNumber rule vessels (now (names .entry)) (now (numbers .entry)) (length (now (out .entry))) ⌝ }
+    ensures bytes { λ _. ⌜ now (out .exit) ≡ written rule vessels (now (names .entry)) (now (numbers .entry)) (now (out .entry)) ⌝ }
+{
+    sheet::write(rule, vessels, names, numbers, out)
+}
+
+#[no_mangle]
+pub extern "C" fn lumchaki_run(sheet: &[u8], table: &mut [u32]) -> Ran
+    ensures { λ r. ⌜ (r ≡ (running (now (sheet .entry)) (now (table .entry))) .answer) × (now (table .exit) ≡ (running (now (sheet .entry)) (now (table .entry))) .table) ⌝ }
+{
+    sheet::run::run(sheet, table)
+}
