@@ -1,0 +1,177 @@
+/* Lumchaki traces lots of flour through vessels: whose flour lies in which vessel, and since when.
+ *
+ * A book is a head, which the caller hands along by value, and a table, which the caller lends to
+ * each call. Nothing is allocated and nothing is kept between calls, so calls on different books may
+ * run at the same time. Every call returns on every input; a call that is refused says so by its
+ * number, hands the head back as it was and writes nothing.
+ *
+ * A pointer is followed by the count of elements that it lends. It may not be null, not even with
+ * the count 0. What is lent for writing may not overlap anything else that is lent to the call.
+ *
+ * Link with target/staticlib/liblumchaki.a. A transfer or a run needs about 256 KiB of stack. */
+#ifndef LUMCHAKI_H
+#define LUMCHAKI_H
+
+#include <stddef.h>
+#include <stdint.h>
+
+#ifdef __cplusplus
+extern "C" {
+#endif
+
+enum {
+    LUMCHAKI_VESSELS = 64,        /* the most vessels of a book */
+    LUMCHAKI_PLACES = 4096,       /* a table never counts more places than this */
+    LUMCHAKI_MOVEMENTS = 4096,    /* the most movements of a sheet */
+    LUMCHAKI_SHEET_HEADER = 24,   /* the bytes of a sheet before its names */
+    LUMCHAKI_NAME_BYTES = 8,      /* the bytes of a name in a sheet */
+    LUMCHAKI_MOVEMENT_BYTES = 12  /* the bytes of a movement in a sheet */
+};
+
+/* Which pieces of a vessel go first. */
+enum {
+    LUMCHAKI_FIRST_RECEIVED = 0, /* earliest received first */
+    LUMCHAKI_LAST_RECEIVED = 1,  /* latest received first */
+    LUMCHAKI_FIRST_BORN = 2,     /* smallest birth minute, on a tie the earlier received */
+    LUMCHAKI_LAST_BORN = 3       /* largest birth minute, on a tie the later received */
+};
+
+/* The number of an answer: 0, or why the call was refused. Beside each stands the word of the paper. */
+enum {
+    LUMCHAKI_ACCEPTED = 0,
+    LUMCHAKI_TABLE_SHORT = 1,   /* "no tray": the table has fewer than 4 numbers */
+    LUMCHAKI_RULE_UNKNOWN = 2,  /* "rule unknown": the rule is above 3 */
+    LUMCHAKI_VESSEL_COUNT = 3,  /* "vessel count": the count of vessels is not 1 to 64 */
+    LUMCHAKI_BOOK_OFF = 4,      /* "book off": head and table are no book that adds up */
+    LUMCHAKI_NO_VESSEL = 5,     /* "no vessel": a vessel or origin is not below the count */
+    LUMCHAKI_SAME_VESSEL = 6,   /* "same tub": source and destination are the same */
+    LUMCHAKI_NO_WEIGHT = 7,     /* "empty scoop": the weight is 0 */
+    LUMCHAKI_CLOCK_BACK = 8,    /* "clock back": the minute is before the last accepted one */
+    LUMCHAKI_OVERFULL = 9,      /* "overfull": the destination's balance would pass 4,294,967,295 */
+    LUMCHAKI_TALLY_FULL = 10,   /* "tally full": 4,294,967,295 transfers were accepted already */
+    LUMCHAKI_TABLE_FULL = 11,   /* "tray full": a split or birth is due and no place is free */
+    LUMCHAKI_SPAN_BACK = 12,    /* "span back": the span ends before it starts */
+    LUMCHAKI_REPORT_SHORT = 13, /* "short form": the room for the report is too small */
+    LUMCHAKI_NO_SHEET = 14,     /* "no sheet": fewer than 24 bytes, or another mark */
+    LUMCHAKI_MOVEMENTS_OFF = 15, /* "movements": the count of movements is not 1 to 4,096 */
+    LUMCHAKI_LAYOUT = 16,       /* "layout": an offset or length is wrong */
+    LUMCHAKI_NAME = 17,         /* "name": a name is ill-formed or used twice */
+    LUMCHAKI_FILLER = 18,       /* "filler": a filler is not 0 */
+    LUMCHAKI_OUTPUT_SHORT = 19, /* "short paper": the room for the sheet is too small */
+    LUMCHAKI_PAST_END = 20      /* "past the end": the movement asked for is not on the sheet */
+};
+
+/* The head of a book. A fresh one comes from lumchaki_open. */
+typedef struct {
+    uint32_t rule;
+    uint32_t vessels;  /* 1 to 64 */
+    uint32_t pieces;   /* so many pieces lie in the table */
+    uint32_t last;     /* the minute of the last accepted transfer */
+    uint32_t accepted; /* how many transfers were accepted */
+    uint32_t balances[LUMCHAKI_VESSELS]; /* grams in each vessel, 0 from `vessels` on */
+} lumchaki_head;
+
+/* A piece is four numbers of the table: holder, origin, birth minute, weight in grams. Piece i starts
+ * at number 4 * i; the pieces lie in order of receipt. A table has a place for every four numbers, but
+ * never more than 4,096. Numbers behind the last piece are never written. */
+
+typedef struct {
+    uint32_t number;
+    lumchaki_head head; /* the fresh head; zeros on a refusal */
+} lumchaki_opened;
+
+typedef struct {
+    uint32_t number;
+    lumchaki_head head; /* the next head; the one given on a refusal */
+    uint32_t whole;     /* how many pieces moved whole */
+    uint32_t split;     /* how many pieces were split: 0 or 1 */
+    uint32_t born;      /* the weight that the source lacked, born there now */
+} lumchaki_transferred;
+
+typedef struct {
+    uint32_t number;
+    lumchaki_head head; /* the head as given */
+} lumchaki_reported;
+
+typedef struct {
+    uint32_t number;
+    uint32_t rule;
+    uint32_t vessels;
+    uint32_t movements;
+} lumchaki_reading;
+
+typedef struct {
+    uint32_t number;
+    uint32_t source;
+    uint32_t destination;
+    uint32_t minute;
+    uint32_t weight;
+} lumchaki_movement_read;
+
+typedef struct {
+    uint32_t number;    /* 0, or the refusal of the sheet, the table or the movement at `index` */
+    uint32_t index;     /* where the run stopped; the count of movements if all passed */
+    uint32_t even;      /* accepted movements without split or birth */
+    lumchaki_head head; /* after the last accepted movement; zeros if no book was opened */
+} lumchaki_ran;
+
+/* Opens a book. Checks 2, 3. */
+lumchaki_opened lumchaki_open(uint32_t rule, uint32_t vessels);
+
+/* Transfers weight from source to destination at a minute. Pieces of the source are picked by the rule
+ * until the weight is reached; what the source lacks is born there now. Checks 1, 4, 5 to 11. */
+lumchaki_transferred lumchaki_transfer(lumchaki_head head, uint32_t *table, size_t table_len,
+                                       uint32_t source, uint32_t destination, uint32_t minute,
+                                       uint32_t weight);
+
+/* Writes `vessels` numbers: the weight by origin in a vessel. Checks 1, 4, 5, 13. */
+lumchaki_reported lumchaki_held(lumchaki_head head, const uint32_t *table, size_t table_len,
+                                uint32_t vessel, uint32_t *report, size_t report_len);
+
+/* Writes `vessels` numbers: the weight in each vessel that was born at an origin from one minute to
+ * another, both included. Checks 1, 4, 5, 12, 13. */
+lumchaki_reported lumchaki_spread(lumchaki_head head, const uint32_t *table, size_t table_len,
+                                  uint32_t origin, uint32_t from, uint32_t to, uint32_t *report,
+                                  size_t report_len);
+
+/* Writes `vessels` rows of `vessels` numbers: row v is the held report of vessel v. Checks 1, 4, 13. */
+lumchaki_reported lumchaki_whole(lumchaki_head head, const uint32_t *table, size_t table_len,
+                                 uint32_t *report, size_t report_len);
+
+/* A sheet is bytes, its numbers little-endian:
+ *    0  the letters PROV
+ *    4  rule (2 bytes)
+ *    6  V, the count of vessels (2)
+ *    8  M, the count of movements (4)
+ *   12  24, where the names start (4)
+ *   16  24 + 8 V, where the movements start (4)
+ *   20  24 + 8 V + 12 M, the length (4)
+ *   24  V names of 8 bytes: 1 to 8 bytes of 21 to 7E hexadecimal, then zeros
+ *  ...  M movements of 12 bytes: source (1), destination (1), filler 0 (2), minute (4), weight (4) */
+
+/* Reads a sheet and checks all of it: 14, 2, 3, 15, 16, 17, then for each movement 18, 5. */
+lumchaki_reading lumchaki_read(const uint8_t *sheet, size_t sheet_len);
+
+/* The movement at an index from 0. Checks as lumchaki_read, then 20. */
+lumchaki_movement_read lumchaki_movement(const uint8_t *sheet, size_t sheet_len, uint32_t index);
+
+/* The length of a vessel's name, which starts at byte 24 + 8 * vessel of the sheet; 0 on a refusal,
+ * whose number lumchaki_name_number gives. Checks as lumchaki_read, then 5. */
+size_t lumchaki_name(const uint8_t *sheet, size_t sheet_len, uint32_t vessel);
+uint32_t lumchaki_name_number(const uint8_t *sheet, size_t sheet_len, uint32_t vessel);
+
+/* Writes the sheet of 8 bytes for each name and 4 numbers for each movement: source, destination,
+ * minute, weight. Bytes of `out` behind the sheet remain. Gives the number; checks 2, 3, 16, 15, 17,
+ * 5, 19. */
+uint32_t lumchaki_write(uint32_t rule, uint32_t vessels, const uint8_t *names, size_t names_len,
+                        const uint32_t *numbers, size_t numbers_len, uint8_t *out, size_t out_len);
+
+/* Runs a sheet on a table: reads it, checks 1, opens a book and transfers until one is refused. A run
+ * that stops keeps the movements before its stop. */
+lumchaki_ran lumchaki_run(const uint8_t *sheet, size_t sheet_len, uint32_t *table, size_t table_len);
+
+#ifdef __cplusplus
+}
+#endif
+
+#endif

@@ -1,0 +1,202 @@
+//! What is timed. Each row takes an engine, or none for the second implementation, whose single
+//! calls are timed on a book of its own: taking a head and a table apart is no part of its work.
+
+use crate::clock::best;
+use calls::{Engine, Head, Piece, Transfer, PLACES, VESSELS};
+use compare::{heaviest, working_day, Random};
+use second::{Book, Second};
+
+/// An engine, or the second implementation.
+type Timed = Option<&'static dyn Engine>;
+
+/// A row of the table: what is timed, and how to time it.
+type Row = (&'static str, fn(&Loads, Timed) -> f64);
+
+/// The rows of the table.
+pub const ROWS: [Row; 7] = [
+    ("heaviest sheet, 4,096 movements", Loads::heaviest),
+    ("bakery's day, 4,096 movements", Loads::day),
+    ("light transfer, a part of one lot", Loads::light),
+    ("heavy transfer, 4,096 pieces whole", Loads::heavy),
+    ("held report, 4,096 pieces", Loads::held),
+    ("spread report, 4,096 pieces", Loads::spread),
+    ("whole report, 4,096 pieces", Loads::whole),
+];
+
+/// The light transfers that are timed together: they fill a table from 4,000 pieces to 4,096.
+const LIGHT: usize = 96;
+
+/// A head, its table, and the same book in the second implementation.
+struct Full {
+    head: Head,
+    table: Vec<u32>,
+    second: Book,
+}
+
+/// The sheets and books of one rule.
+pub struct Loads {
+    heaviest: Vec<u8>,
+    day: Vec<u8>,
+    /// 4,000 pieces in 64 vessels.
+    nearly_full: Full,
+    /// 4,096 pieces in 64 vessels.
+    full: Full,
+    /// 4,096 pieces in vessel 0.
+    heap: Full,
+}
+
+/// A book of pieces of 1 to 5 kg born at any minute of a day, in the first `vessels` vessels.
+fn book_of(random: &mut Random, rule: u32, pieces: usize, vessels: u32) -> Full {
+    const DAY: u32 = 1440;
+    let mut table = vec![0; 4 * PLACES];
+    let mut head = Head {
+        rule,
+        vessels: VESSELS as u32,
+        pieces: pieces as u32,
+        last: DAY,
+        accepted: pieces as u32,
+        ..Head::ZERO
+    };
+    for place in table.chunks_exact_mut(4).take(pieces) {
+        let piece = Piece {
+            holder: random.below(vessels),
+            origin: random.below(VESSELS as u32),
+            birth: random.below(DAY),
+            weight: random.from_to(1_000, 5_000),
+        };
+        head.balances[piece.holder as usize] += piece.weight;
+        place.copy_from_slice(&piece.numbers());
+    }
+    let listed: Vec<Piece> = Piece::all(&head, &table).collect();
+    let second = Book::resume(&head, PLACES, &listed).expect("the book adds up");
+    Full {
+        head,
+        table,
+        second,
+    }
+}
+
+impl Full {
+    /// The time of some transfers, one after the other, from this book on.
+    fn transfers(&self, engine: Timed, transfers: &[Transfer]) -> f64 {
+        let seconds = match engine {
+            Some(engine) => best(
+                || (self.head, self.table.clone()),
+                |(head, table)| {
+                    for t in transfers {
+                        let answer = engine.transfer(*head, table, *t);
+                        assert_eq!(answer.number, 0);
+                        *head = answer.head;
+                    }
+                },
+            ),
+            None => best(
+                || self.second.clone(),
+                |book| {
+                    for t in transfers {
+                        book.transfer(*t).expect("accepted");
+                    }
+                },
+            ),
+        };
+        seconds / transfers.len() as f64
+    }
+}
+
+/// The time of a sheet's run on a table of 4,096 places.
+fn run(engine: Timed, sheet: &[u8]) -> f64 {
+    let engine = engine.unwrap_or(&Second);
+    best(
+        || vec![0; 4 * PLACES],
+        |table| assert_eq!(engine.run(sheet, table).number, 0),
+    )
+}
+
+impl Loads {
+    pub fn new(rule: u32) -> Loads {
+        let mut random = Random::new(51);
+        Loads {
+            heaviest: heaviest(rule).bytes(),
+            day: working_day(&mut random, rule).bytes(),
+            nearly_full: book_of(&mut random, rule, PLACES - LIGHT, VESSELS as u32),
+            full: book_of(&mut random, rule, PLACES, VESSELS as u32),
+            heap: book_of(&mut random, rule, PLACES, 1),
+        }
+    }
+
+    /// How many pieces lie about at the end of the bakery's day.
+    pub fn day_pieces(&self) -> u32 {
+        let mut table = vec![0; 4 * PLACES];
+        Second.run(&self.day, &mut table).head.pieces
+    }
+
+    fn heaviest(&self, engine: Timed) -> f64 {
+        run(engine, &self.heaviest)
+    }
+
+    fn day(&self, engine: Timed) -> f64 {
+        run(engine, &self.day)
+    }
+
+    fn light(&self, engine: Timed) -> f64 {
+        // No vessel both gives and receives, so that each transfer splits a lot under every rule.
+        let half = VESSELS as u32 / 2;
+        let last = self.nearly_full.head.last;
+        let light = |i: u32| Transfer::new([i % half, half + i % half, last, 10]);
+        let transfers: Vec<Transfer> = (0..LIGHT as u32).map(light).collect();
+        self.nearly_full.transfers(engine, &transfers)
+    }
+
+    fn heavy(&self, engine: Timed) -> f64 {
+        let Head { last, balances, .. } = self.heap.head;
+        let forth = Transfer::new([0, 1, last, balances[0]]);
+        let back = Transfer::new([1, 0, last, balances[0]]);
+        self.heap.transfers(engine, &[forth, back])
+    }
+
+    fn held(&self, engine: Timed) -> f64 {
+        let Full {
+            head,
+            table,
+            second,
+        } = &self.full;
+        match engine {
+            Some(engine) => best(
+                || [0; VESSELS],
+                |report| assert_eq!(engine.held(*head, table, 5, report).number, 0),
+            ),
+            None => best(|| (), |()| second.held(5)),
+        }
+    }
+
+    fn spread(&self, engine: Timed) -> f64 {
+        let Full {
+            head,
+            table,
+            second,
+        } = &self.full;
+        let span = (100, 700);
+        match engine {
+            Some(engine) => best(
+                || [0; VESSELS],
+                |report| assert_eq!(engine.spread(*head, table, 5, span, report).number, 0),
+            ),
+            None => best(|| (), |()| second.spread(5, span.0, span.1)),
+        }
+    }
+
+    fn whole(&self, engine: Timed) -> f64 {
+        let Full {
+            head,
+            table,
+            second,
+        } = &self.full;
+        match engine {
+            Some(engine) => best(
+                || [0; VESSELS * VESSELS],
+                |report| assert_eq!(engine.whole(*head, table, report).number, 0),
+            ),
+            None => best(|| (), |()| second.whole()),
+        }
+    }
+}

@@ -1,0 +1,55 @@
+//! Times the calls and prints a table for each rule: the proved library, the second implementation
+//! (queues and heaps of its own) and the plain form (the library's algorithm in ordinary Rust).
+//!
+//! `cargo run --release -p bench`, or with `--no-default-features` without the library.
+
+mod clock;
+mod loads;
+mod table;
+
+use calls::Engine;
+use loads::Loads;
+use second::Second;
+use table::Table;
+
+/// Each engine gets so many turns at each row.
+const TURNS: usize = 3;
+
+const RULES: [&str; 4] = [
+    "earliest received first",
+    "latest received first",
+    "smallest birth minute first",
+    "largest birth minute first",
+];
+
+fn main() {
+    let subjects = compare::subjects();
+    let labels = subjects.iter().map(|e| e.label()).chain([Second.label()]);
+    let labels: Vec<&str> = labels.collect();
+    println!(
+        "Best of many runs. Head and table are checked in full by each single transfer and report"
+    );
+    println!(
+        "of library and plain; the second implementation keeps its own pieces and trusts them."
+    );
+    for (rule, words) in (0..).zip(RULES) {
+        let loads = Loads::new(rule);
+        println!(
+            "\nrule {rule}: {words} (a day leaves {} pieces)",
+            loads.day_pieces()
+        );
+        let mut table = Table::new(&labels);
+        for (title, time) in loads::ROWS {
+            let mut times = vec![f64::MAX; labels.len()];
+            // In turns, so that a busy spell of the machine does not hit one of them alone.
+            for _ in 0..TURNS {
+                let engines = subjects.iter().map(|&engine| Some(engine)).chain([None]);
+                for (best, engine) in times.iter_mut().zip(engines) {
+                    *best = best.min(time(&loads, engine));
+                }
+            }
+            table.row(title, times);
+        }
+        table.print();
+    }
+}

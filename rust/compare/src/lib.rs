@@ -1,0 +1,31 @@
+//! Compares implementations of document 01 call by call: answers, lent memory, and what lies
+//! around it. The tests are in `tests/`; here is what they share.
+
+#[cfg(feature = "library")]
+mod library;
+mod make;
+mod pair;
+mod random;
+mod tally;
+
+#[cfg(feature = "library")]
+pub use library::Library;
+pub use make::{
+    book, call_list, foul_book, heaviest, names, near, report_room, room, sheet, transfer_for,
+    working_day, Call, FOUL_CLAUSES,
+};
+pub use pair::Pair;
+pub use random::Random;
+pub use tally::Tally;
+
+use calls::Engine;
+use plain::Plain;
+
+/// What is compared with the second implementation.
+pub fn subjects() -> Vec<&'static dyn Engine> {
+    vec![
+        #[cfg(feature = "library")]
+        &Library,
+        &Plain,
+    ]
+}

@@ -1,0 +1,12 @@
+//! Comparisons of the library and of its plain form with the second implementation. Seeds are
+//! fixed; every test counts what it covered and fails if that is too little.
+
+mod books;
+mod demand3;
+mod header;
+mod listing;
+mod order;
+mod sheets;
+mod vectors;
+#[cfg(feature = "library")]
+mod wrapper;

@@ -1,0 +1,290 @@
+//! Sheets: good ones, damaged ones, written ones.
+
+use calls::{Refusal, Transfer, MOVEMENTS, MOVEMENT_BYTES, NAME_BYTES, SHEET_HEADER};
+use compare::{near, room, sheet, subjects, Pair, Random};
+use second::Sheet;
+
+/// What reading a sheet may answer.
+const READ: [u32; 9] = [0, 2, 3, 5, 14, 15, 16, 17, 18];
+
+/// A table length for a run: mostly enough, often too small for all pieces, now and then none.
+fn table_length(random: &mut Random) -> usize {
+    match random.below(8) {
+        0 => random.index(8),
+        1 => 16_384 + random.index(9),
+        2..=4 => random.index(60),
+        _ => 400,
+    }
+}
+
+/// Every call on a sheet, with indices near the limits.
+fn ask_all(pair: &mut Pair, random: &mut Random, bytes: &[u8]) {
+    let reading = pair.read(bytes);
+    let index = near(random, &[0, reading.movements]);
+    pair.movement(bytes, index);
+    let vessel = near(random, &[0, reading.vessels]);
+    pair.name(bytes, vessel);
+    let length = table_length(random);
+    let mut table = room(random, length);
+    pair.run(bytes, &mut table);
+}
+
+/// Takes a sheet apart by the subject's own answers and writes it anew: the same bytes.
+fn rewrite(pair: &mut Pair, random: &mut Random, sheet: &Sheet) {
+    let bytes = sheet.bytes();
+    let reading = pair.read(&bytes);
+    assert_eq!(reading.number, 0);
+    assert_eq!(reading.rule, sheet.rule);
+    let mut names = Vec::new();
+    for (vessel, given) in (0..reading.vessels).zip(&sheet.names) {
+        let (number, name) = pair.name(&bytes, vessel);
+        assert_eq!(number, 0);
+        names.extend(name);
+        names.resize(NAME_BYTES * (vessel as usize + 1), 0);
+        assert!(names.ends_with(given));
+    }
+    let mut numbers = Vec::new();
+    for (index, given) in (0..reading.movements).zip(&sheet.movements) {
+        let m = pair.movement(&bytes, index);
+        let m = Transfer::new([m.source, m.destination, m.minute, m.weight]);
+        assert_eq!(m, *given);
+        numbers.extend(m.numbers());
+    }
+    assert_eq!(numbers.len(), 4 * sheet.movements.len());
+    let mut out = vec![0xee; bytes.len() + random.index(5)];
+    let parts = (reading.rule, reading.vessels);
+    assert_eq!(pair.write(parts, &names, &numbers, &mut out), 0);
+    assert_eq!(out[..bytes.len()], bytes);
+}
+
+/// One damage to a sheet that could be read before the damages to it.
+pub fn damage(random: &mut Random, bytes: &mut Vec<u8>) {
+    let vessels = bytes.get(6).map_or(0, |&v| usize::from(v));
+    let first = SHEET_HEADER + NAME_BYTES * vessels;
+    if bytes.len() < first + MOVEMENT_BYTES {
+        return; // cut already
+    }
+    let name = SHEET_HEADER + NAME_BYTES * random.index(vessels.max(1));
+    let movements = (bytes.len() - first) / MOVEMENT_BYTES;
+    let movement = first + MOVEMENT_BYTES * random.index(movements);
+    let length = bytes.len() as u32;
+    let mut put = |at: usize, number: u32, size: usize| {
+        bytes[at..at + size].copy_from_slice(&number.to_le_bytes()[..size]);
+    };
+    match random.below(18) {
+        0 => put(random.index(4), random.any(), 1),
+        1 => put(4, near(random, &[3, 256]), 2),
+        2 => put(6, near(random, &[0, 64, vessels as u32]), 2),
+        3 => put(8, near(random, &[0, 4096, movements as u32, 1 << 16]), 4),
+        4 => put(12, near(random, &[24]), 4),
+        5 => put(16, near(random, &[first as u32]), 4),
+        6 => put(20, near(random, &[length]), 4),
+        7 => bytes.truncate(random.index(length as usize)),
+        8 => bytes.extend(vec![0; 1 + random.index(20)]),
+        9 => put(name, 0, 1),
+        10 => put(
+            name + random.index(NAME_BYTES),
+            random.one_of(&[0x20, 0x7f, 0x80, 0xff]),
+            1,
+        ),
+        11 => put(
+            name + random.index(NAME_BYTES),
+            random.one_of(&[0, 1, 0x21, 0x7e]),
+            1,
+        ),
+        12 => {
+            let other = SHEET_HEADER + NAME_BYTES * random.index(vessels.max(1));
+            bytes.copy_within(name..name + NAME_BYTES, other);
+        }
+        13 => put(movement + 2 + random.index(2), random.from_to(1, 255), 1),
+        14 => put(
+            movement + random.index(2),
+            near(random, &[vessels as u32, 255]),
+            1,
+        ),
+        15 => {
+            // One movement fewer or more, and the header agrees.
+            let count = random.one_of(&[movements - 1, movements + 1]);
+            bytes.resize(first + MOVEMENT_BYTES * count, 0);
+            let length = bytes.len() as u32;
+            bytes[8..12].copy_from_slice(&(count as u32).to_le_bytes());
+            bytes[20..24].copy_from_slice(&length.to_le_bytes());
+        }
+        16 => put(random.index(length as usize), random.any(), 1),
+        _ => put(movement + 4 + random.index(8), random.any(), 1),
+    }
+}
+
+#[test]
+fn good_sheets() {
+    for subject in subjects() {
+        let mut pair = Pair::new(subject);
+        let mut random = Random::new(11);
+        for _ in 0..10_000 {
+            let sheet = sheet(&mut random, 60);
+            ask_all(&mut pair, &mut random, &sheet.bytes());
+            if random.once_in(8) {
+                rewrite(&mut pair, &mut random, &sheet);
+            }
+        }
+        pair.tally.print(&format!("good sheets, {}", pair.label()));
+        pair.tally.expect("read", &[0], 10_000);
+        pair.tally.expect("movement", &[0, 20], 500);
+        pair.tally.expect("name", &[0, 5], 500);
+        pair.tally.expect("write", &[0], 300);
+        pair.tally.expect("run", &[0, 1, 6, 7, 8, 9, 11], 30);
+    }
+}
+
+#[test]
+fn long_sheets() {
+    for subject in subjects() {
+        let mut pair = Pair::new(subject);
+        let mut random = Random::new(12);
+        let mut pieces = 0;
+        for round in 0..60 {
+            let sheet = match round {
+                0..=3 => compare::heaviest(round),
+                4..=7 => compare::working_day(&mut random, round - 4),
+                _ => sheet(&mut random, MOVEMENTS as u32),
+            };
+            let length = random.one_of(&[16_384, 20_003, 1_000, 4_000]);
+            let mut table = room(&mut random, length);
+            let ran = pair.run(&sheet.bytes(), &mut table);
+            pieces = pieces.max(ran.head.pieces);
+        }
+        pair.tally.print(&format!(
+            "long sheets, {} (up to {pieces} pieces)",
+            pair.label()
+        ));
+        assert!(pieces > 3_000);
+        assert!(pair.tally.count("run", 0) > 10 && pair.tally.count("run", 11) > 3);
+    }
+}
+
+#[test]
+fn damaged_sheets() {
+    for subject in subjects() {
+        let mut pair = Pair::new(subject);
+        let mut random = Random::new(13);
+        for _ in 0..40_000 {
+            let mut bytes = sheet(&mut random, 12).bytes();
+            for _ in 0..random.from_to(1, 2) {
+                damage(&mut random, &mut bytes);
+            }
+            ask_all(&mut pair, &mut random, &bytes);
+        }
+        pair.tally
+            .print(&format!("damaged sheets, {}", pair.label()));
+        pair.tally.expect("read", &READ, 500);
+        let asked: Vec<u32> = READ.into_iter().chain([20]).collect();
+        pair.tally.expect("movement", &asked, 500);
+        pair.tally.expect("name", &READ, 500);
+        let run: Vec<u32> = READ.into_iter().chain([1, 6, 7, 8, 9, 11]).collect();
+        pair.tally.expect("run", &run, 20);
+    }
+}
+
+/// Every byte of a small sheet, with every value.
+#[test]
+fn every_byte_of_a_sheet() {
+    let good = Sheet {
+        rule: 1,
+        names: vec![*b"FULLNAME", *b"B\0\0\0\0\0\0\0"],
+        movements: [[0, 1, 5, 7], [1, 0, 6, 3]].map(Transfer::new).to_vec(),
+    };
+    for subject in subjects() {
+        let mut pair = Pair::new(subject);
+        let mut random = Random::new(14);
+        let mut bytes = good.bytes();
+        for at in 0..bytes.len() {
+            let kept = bytes[at];
+            for value in 0..=255 {
+                bytes[at] = value;
+                ask_all(&mut pair, &mut random, &bytes);
+            }
+            bytes[at] = kept;
+        }
+        pair.tally.print(&format!("every byte, {}", pair.label()));
+        pair.tally.expect("read", &READ, 100);
+    }
+}
+
+#[test]
+fn every_length_of_a_sheet() {
+    for subject in subjects() {
+        let mut pair = Pair::new(subject);
+        let mut random = Random::new(15);
+        for _ in 0..30 {
+            let bytes = sheet(&mut random, 8).bytes();
+            let mut longer = bytes.clone();
+            longer.extend(bytes.iter().cycle().take(40));
+            for length in 0..longer.len() {
+                let number = pair.read(&longer[..length]).number;
+                let expected = if length == bytes.len() {
+                    0
+                } else if length < SHEET_HEADER {
+                    Refusal::NoSheet.number()
+                } else {
+                    Refusal::Layout.number()
+                };
+                assert_eq!(number, expected);
+            }
+        }
+        pair.tally.print(&format!("every length, {}", pair.label()));
+        pair.tally.expect("read", &[0, 14, 16], 30);
+    }
+}
+
+#[test]
+fn written_sheets() {
+    for subject in subjects() {
+        let mut pair = Pair::new(subject);
+        let mut random = Random::new(16);
+        for _ in 0..20_000 {
+            let sheet = sheet(&mut random, 8);
+            let mut rule = sheet.rule;
+            let mut vessels = sheet.names.len() as u32;
+            let mut names: Vec<u8> = sheet.names.concat();
+            let numbers = sheet.movements.iter().flat_map(Transfer::numbers);
+            let mut numbers: Vec<u32> = numbers.collect();
+            let mut length = sheet.bytes().len() + random.index(9);
+            for _ in 0..random.below(3) {
+                let (some_name, some_number) = (
+                    random.index(names.len().max(1)),
+                    random.index(numbers.len().max(1)),
+                );
+                match random.below(10) {
+                    0 => rule = near(&mut random, &[4]),
+                    1 => vessels = near(&mut random, &[0, 65, vessels]),
+                    2 => names.truncate(some_name),
+                    3 => names.extend([0x41; NAME_BYTES]),
+                    4 => numbers.truncate(some_number),
+                    5 => numbers.clear(),
+                    6 => numbers.resize(4 * random.one_of(&[4096, 4097]), 0),
+                    7 if some_name < names.len() => {
+                        names[some_name] = random.one_of(&[0, 0x20, 0x7f, 0x21, 0xff]);
+                    }
+                    8 if some_number < numbers.len() => {
+                        // Also a number whose low byte alone would be a vessel.
+                        numbers[some_number] = near(&mut random, &[vessels, 256, 1 << 24]);
+                    }
+                    _ => length = random.index(length + 1),
+                }
+            }
+            let mut out: Vec<u8> = (0..length).map(|_| random.any() as u8).collect();
+            let number = pair.write((rule, vessels), &names, &numbers, &mut out);
+            if number == 0 {
+                let written = SHEET_HEADER + names.len() + 3 * numbers.len();
+                let reading = pair.read(&out[..written]);
+                let counts = (reading.rule, reading.vessels, reading.movements as usize);
+                assert_eq!(reading.number, 0);
+                assert_eq!(counts, (rule, vessels, numbers.len() / 4));
+            }
+        }
+        pair.tally
+            .print(&format!("written sheets, {}", pair.label()));
+        pair.tally
+            .expect("write", &[0, 2, 3, 5, 15, 16, 17, 19], 200);
+    }
+}

@@ -1,0 +1,169 @@
+//! The typed face of the wrapper against the bare answers under it.
+
+use calls::{Head, Refusal};
+use compare::{book, foul_book, near, room, sheet, transfer_for, Random, FOUL_CLAUSES};
+use lumchaki::raw;
+use std::collections::BTreeMap;
+
+/// The number of a result, counted.
+#[derive(Default)]
+struct Seen(BTreeMap<u32, u32>);
+
+impl Seen {
+    fn number<T>(&mut self, result: &Result<T, Refusal>) -> u32 {
+        let number = result.as_ref().err().map_or(0, |refusal| refusal.number());
+        *self.0.entry(number).or_default() += 1;
+        number
+    }
+}
+
+#[test]
+fn openings() {
+    for rule in 0..6 {
+        for vessels in 0..70 {
+            let bare = raw::open(rule, vessels);
+            match lumchaki::open(rule, vessels) {
+                Ok(head) => assert_eq!((0, head), (bare.number, bare.head)),
+                Err(refusal) => {
+                    assert_eq!((refusal.number(), Head::ZERO), (bare.number, bare.head));
+                }
+            }
+        }
+    }
+}
+
+#[test]
+fn books() {
+    let mut random = Random::new(41);
+    let mut seen = Seen::default();
+    for round in 0..6_000 {
+        let length = random.index(50);
+        let (mut head, mut table) = book(&mut random, round % 4, length);
+        if length >= 4 && random.once_in(8) {
+            let clause = random.one_of(&FOUL_CLAUSES);
+            foul_book(&mut random, clause, &mut head, &mut table);
+        }
+        let transfer = transfer_for(&mut random, &head, &table);
+        let (given_head, mut bare_table) = (head, table.clone());
+        let bare = raw::transfer(head, &mut bare_table, transfer);
+        let result = lumchaki::transfer(&mut head, &mut table, transfer);
+        assert_eq!(seen.number(&result), bare.number);
+        assert_eq!((head, &table), (bare.head, &bare_table));
+        if let Ok(moved) = result {
+            let numbers = (moved.whole, u32::from(moved.split), moved.born);
+            assert_eq!(numbers, (bare.whole, bare.split, bare.born));
+        } else {
+            assert_eq!(head, given_head);
+        }
+
+        let vessels = head.vessels.min(64);
+        let vessel = near(&mut random, &[0, vessels]);
+        let length = random.from_to(0, 2 * vessels) as usize;
+        let mut numbers = room(&mut random, length);
+        let mut bare_numbers = numbers.clone();
+        let bare = raw::held(head, &table, vessel, &mut bare_numbers);
+        let result = lumchaki::held(&head, &table, vessel, &mut numbers);
+        assert_eq!(seen.number(&result), bare.number);
+        if let Ok(report) = result {
+            assert_eq!(report, &bare_numbers[..vessels as usize]);
+        }
+        let (from, to) = (random.below(6), random.below(20));
+        let bare = raw::spread(head, &table, vessel, (from, to), &mut bare_numbers);
+        let result = lumchaki::spread(&head, &table, vessel, from..=to, &mut numbers);
+        assert_eq!(seen.number(&result), bare.number);
+        if let Ok(report) = result {
+            assert_eq!(report, &bare_numbers[..vessels as usize]);
+        }
+        let length = random.from_to(0, 2 * vessels * vessels) as usize;
+        let mut numbers = room(&mut random, length);
+        let mut bare_numbers = numbers.clone();
+        let bare = raw::whole(head, &table, &mut bare_numbers);
+        let result = lumchaki::whole(&head, &table, &mut numbers);
+        assert_eq!(seen.number(&result), bare.number);
+        if let Ok(report) = result {
+            assert_eq!(report, &bare_numbers[..(vessels * vessels) as usize]);
+        }
+    }
+    for number in [0, 1, 4, 5, 6, 7, 8, 9, 10, 11, 12, 13] {
+        assert!(seen.0.get(&number) > Some(&20), "{number}: {:?}", seen.0);
+    }
+}
+
+#[test]
+fn sheets() {
+    let mut random = Random::new(42);
+    let mut seen = Seen::default();
+    let mut stops = 0;
+    for round in 0..6_000 {
+        let mut bytes = sheet(&mut random, 10).bytes();
+        if round % 2 == 1 {
+            crate::sheets::damage(&mut random, &mut bytes);
+        }
+        let bare = raw::read(&bytes);
+        let result = lumchaki::read(&bytes);
+        assert_eq!(seen.number(&result), bare.number);
+        if let Ok(summary) = result {
+            let counts = [summary.rule, summary.vessels, summary.movements];
+            assert_eq!(counts, [bare.rule, bare.vessels, bare.movements]);
+        }
+        let index = near(&mut random, &[0, bare.movements]);
+        let vessel = near(&mut random, &[0, bare.vessels]);
+        let bare = raw::movement(&bytes, index);
+        let result = lumchaki::movement(&bytes, index);
+        assert_eq!(seen.number(&result), bare.number);
+        if let Ok(m) = result {
+            let fields = [bare.source, bare.destination, bare.minute, bare.weight];
+            assert_eq!(m.numbers(), fields);
+        }
+        let result = lumchaki::name(&bytes, vessel);
+        assert_eq!(seen.number(&result), raw::name_number(&bytes, vessel));
+        if let Ok(name) = result {
+            assert!(!name.is_empty());
+            assert_eq!(
+                name.as_ptr_range(),
+                raw::name(&bytes, vessel).as_ptr_range()
+            );
+        }
+        let length = random.one_of(&[2, 12, 100]);
+        let mut table = room(&mut random, length);
+        let mut bare_table = table.clone();
+        let bare = raw::run(&bytes, &mut bare_table);
+        let result = lumchaki::run(&bytes, &mut table);
+        assert_eq!(table, bare_table);
+        match result {
+            Ok(run) => {
+                assert_eq!((run.head, run.even), (bare.head, bare.even));
+                assert_eq!(
+                    run.stop.map_or(0, |stop| stop.refusal.number()),
+                    bare.number
+                );
+                if let Some(stop) = run.stop {
+                    assert_eq!(stop.index, bare.index);
+                    stops += 1;
+                }
+            }
+            Err(refusal) => {
+                assert_eq!((refusal.number(), Head::ZERO), (bare.number, bare.head));
+                seen.number(&Err::<(), _>(refusal));
+            }
+        }
+    }
+    assert!(stops > 500);
+    for number in [0, 1, 2, 3, 5, 14, 15, 16, 17, 18, 20] {
+        assert!(seen.0.get(&number) > Some(&20), "{number}: {:?}", seen.0);
+    }
+}
+
+#[test]
+fn writing() {
+    let names = b"A\0\0\0\0\0\0\0B\0\0\0\0\0\0\0";
+    let numbers = [0, 1, 2, 3, 1, 0, 2, 1];
+    let mut out = [0xee; 70];
+    let sheet = lumchaki::write(1, 2, names, &numbers, &mut out).expect("a good sheet");
+    assert_eq!(sheet.len(), 64);
+    let second = lumchaki::movement(sheet, 1).expect("two movements");
+    assert_eq!(second.numbers(), [1, 0, 2, 1]);
+    assert_eq!(lumchaki::name(sheet, 1), Ok(&b"B"[..]));
+    let short = lumchaki::write(1, 2, names, &numbers, &mut out[..63]);
+    assert_eq!(short, Err(Refusal::OutputShort));
+}

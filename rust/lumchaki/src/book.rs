@@ -1,0 +1,81 @@
+//! The book: opening, transfer, reports.
+
+use crate::{accept, raw};
+use calls::{Head, Refusal, Transfer};
+use std::ops::RangeInclusive;
+
+/// What an accepted transfer did.
+#[derive(Clone, Copy, Debug, PartialEq, Eq)]
+pub struct Moved {
+    /// How many pieces moved whole.
+    pub whole: u32,
+    /// Whether a piece was split.
+    pub split: bool,
+    /// The weight that the source lacked, born there now.
+    pub born: u32,
+}
+
+/// Opens a book under a rule, for 1 to 64 vessels.
+///
+/// # Errors
+/// [`Refusal::RuleUnknown`], [`Refusal::VesselCount`].
+pub fn open(rule: u32, vessels: u32) -> Result<Head, Refusal> {
+    let answer = raw::open(rule, vessels);
+    accept(answer.number)?;
+    Ok(answer.head)
+}
+
+/// Transfers weight from one vessel to another. A refused transfer leaves head and table as they are.
+///
+/// # Errors
+/// The refusals 1, 4 and 5 to 11, the first that applies.
+pub fn transfer(head: &mut Head, table: &mut [u32], transfer: Transfer) -> Result<Moved, Refusal> {
+    let answer = raw::transfer(*head, table, transfer);
+    accept(answer.number)?;
+    *head = answer.head;
+    Ok(Moved {
+        whole: answer.whole,
+        split: answer.split != 0,
+        born: answer.born,
+    })
+}
+
+/// The weight by origin in a vessel: the part of `report` that was written.
+///
+/// # Errors
+/// The refusals 1, 4, 5 and 13, the first that applies.
+pub fn held<'r>(
+    head: &Head,
+    table: &[u32],
+    vessel: u32,
+    report: &'r mut [u32],
+) -> Result<&'r [u32], Refusal> {
+    accept(raw::held(*head, table, vessel, report).number)?;
+    Ok(&report[..head.vessels as usize])
+}
+
+/// The weight in each vessel that was born at an origin in a span of minutes: the part of `report`
+/// that was written.
+///
+/// # Errors
+/// The refusals 1, 4, 5, 12 and 13, the first that applies.
+pub fn spread<'r>(
+    head: &Head,
+    table: &[u32],
+    origin: u32,
+    span: RangeInclusive<u32>,
+    report: &'r mut [u32],
+) -> Result<&'r [u32], Refusal> {
+    accept(raw::spread(*head, table, origin, span.into_inner(), report).number)?;
+    Ok(&report[..head.vessels as usize])
+}
+
+/// The held report of every vessel, one row behind the other: the part of `report` that was written.
+///
+/// # Errors
+/// The refusals 1, 4 and 13, the first that applies.
+pub fn whole<'r>(head: &Head, table: &[u32], report: &'r mut [u32]) -> Result<&'r [u32], Refusal> {
+    accept(raw::whole(*head, table, report).number)?;
+    let vessels = head.vessels as usize;
+    Ok(&report[..vessels * vessels])
+}

@@ -1,0 +1,52 @@
+//! Traces lots of flour through vessels: whose flour lies in which vessel, and since when.
+//!
+//! The book and the sheet are a proved library (`target/staticlib/liblumchaki.a`); this crate lends
+//! it slices and turns its numbers into a `Result`. A book is a [`Head`], handed along by the
+//! caller, and a table, lent to each call: four numbers for a piece. Nothing is allocated.
+//!
+//! ```
+//! use lumchaki::{held, open, transfer, Piece, Refusal, Transfer};
+//!
+//! // Two suppliers deliver to a silo; the mixer takes the oldest flour first (rule 2).
+//! const MILL: u32 = 0;
+//! const FARM: u32 = 1;
+//! const SILO: u32 = 2;
+//! const MIXER: u32 = 3;
+//! let mut table = [0; 4 * 100];
+//! let mut head = open(2, 4)?;
+//! transfer(&mut head, &mut table, Transfer::new([MILL, SILO, 1, 500]))?;
+//! transfer(&mut head, &mut table, Transfer::new([FARM, SILO, 2, 300]))?;
+//! let moved = transfer(&mut head, &mut table, Transfer::new([SILO, MIXER, 5, 600]))?;
+//! assert_eq!((moved.whole, moved.split, moved.born), (1, true, 0));
+//!
+//! let mut report = [0; 4];
+//! assert_eq!(held(&head, &table, MIXER, &mut report)?, [500, 100, 0, 0]);
+//!
+//! let oldest = Piece::all(&head, &table).min_by_key(|p| p.birth);
+//! assert_eq!(oldest.map(|p| (p.holder, p.origin)), Some((MIXER, MILL)));
+//!
+//! // A refusal changes nothing and has document 01's number and word.
+//! let back = transfer(&mut head, &mut table, Transfer::new([SILO, MIXER, 4, 1]));
+//! assert_eq!(back, Err(Refusal::ClockBack));
+//! assert_eq!(Refusal::ClockBack.to_string(), "clock back (8)");
+//! # Ok::<(), Refusal>(())
+//! ```
+
+#![deny(unsafe_code)]
+
+mod book;
+mod ffi;
+pub mod raw;
+mod sheet;
+
+pub use book::{held, open, spread, transfer, whole, Moved};
+pub use calls::{places, Head, Piece, Refusal, Transfer, MOVEMENTS, PLACES, VESSELS};
+pub use sheet::{movement, name, read, run, write, Run, Stop, Summary};
+
+/// Turns an answer's number into a result.
+fn accept(number: u32) -> Result<(), Refusal> {
+    if number == 0 {
+        return Ok(());
+    }
+    Err(Refusal::of(number).expect("the library gives the numbers of document 01"))
+}

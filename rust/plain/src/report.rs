@@ -1,0 +1,73 @@
+//! The three reports.
+
+use crate::book;
+use calls::{Head, Refusal};
+
+/// The pieces of a book that adds up.
+fn pieces<'t>(head: &Head, table: &'t [u32]) -> &'t [[u32; 4]] {
+    &table.as_chunks().0[..head.pieces as usize]
+}
+
+/// One row: the weight by origin in a vessel.
+fn row(pieces: &[[u32; 4]], vessel: u32, report: &mut [u32]) {
+    report.fill(0);
+    for &[holder, origin, _, weight] in pieces {
+        if holder == vessel {
+            report[origin as usize] += weight;
+        }
+    }
+}
+
+pub fn held(head: &Head, table: &[u32], vessel: u32, report: &mut [u32]) -> Result<(), Refusal> {
+    book::check(head, table)?;
+    if vessel >= head.vessels {
+        return Err(Refusal::NoVessel);
+    }
+    let vessels = head.vessels as usize;
+    if report.len() < vessels {
+        return Err(Refusal::ReportShort);
+    }
+    row(pieces(head, table), vessel, &mut report[..vessels]);
+    Ok(())
+}
+
+pub fn spread(
+    head: &Head,
+    table: &[u32],
+    origin: u32,
+    (from, to): (u32, u32),
+    report: &mut [u32],
+) -> Result<(), Refusal> {
+    book::check(head, table)?;
+    if origin >= head.vessels {
+        return Err(Refusal::NoVessel);
+    }
+    if from > to {
+        return Err(Refusal::SpanBack);
+    }
+    let vessels = head.vessels as usize;
+    if report.len() < vessels {
+        return Err(Refusal::ReportShort);
+    }
+    let report = &mut report[..vessels];
+    report.fill(0);
+    for p in pieces(head, table) {
+        if p[1] == origin && from <= p[2] && p[2] <= to {
+            report[p[0] as usize] += p[3];
+        }
+    }
+    Ok(())
+}
+
+pub fn whole(head: &Head, table: &[u32], report: &mut [u32]) -> Result<(), Refusal> {
+    book::check(head, table)?;
+    let vessels = head.vessels as usize;
+    if report.len() < vessels * vessels {
+        return Err(Refusal::ReportShort);
+    }
+    let rows = report[..vessels * vessels].chunks_exact_mut(vessels);
+    for (vessel, report) in rows.enumerate() {
+        row(pieces(head, table), vessel as u32, report);
+    }
+    Ok(())
+}
