@@ -1,23 +1,23 @@
 -- After a call on a book known to add up, the book is known to add up again, and the table is as long as before: so a run of many
 -- transfers makes checks 1 and 4 once.
 -- Assumes nothing.
-use mathlib.Core.Path.{_≡_, refl, sym, ap, _∙_}
+use mathlib.Core.Path.{_≡_, refl, sym, _∙_}
 use mathlib.Core.Bool.{Bool, true, false, cond}
-use mathlib.Core.List.{List, _++_}
-use Prim.Native.Nat.{ℕ, zero, suc, _+_, _*_, _≤_, _<_}
+use mathlib.Core.List.{List}
+use Prim.Native.Nat.{ℕ, zero, suc, _+_, _≤_}
 use native.Mathlib.Omega.{arith}
 use lib.Dec.{ltb}
-use lib.ListN.{length, getD, drop, length-append, length-drop, List·getD-eq-default}
+use lib.ListN.{length, getD, length-append, length-drop, List·getD-eq-default}
 use borrow.Author.Tests.{ltb-true, ltb-false}
 use Rattle.table.specs.Pieces.{held, done}
-use Rattle.table.specs.Table.{placesOf, flat, lay}
+use Rattle.table.specs.Table.{placesOf, flat}
 use Rattle.table.proofs.Table.{length-flat, quad-is, places-fit}
-use Rattle.refusal.specs.Numbers.{TOP, first, ifZero}
+use Rattle.refusal.specs.Numbers.{TOP, first}
 use Rattle.refusal.proofs.Numbers.{passed}
 use Rattle.book.specs.declared.Head.{Head}
 use Rattle.book.specs.Head.{Book, balanceOf, balancesOf, headOf, bookOf, Sized, emptyHead, opened, openChecks}
-use Rattle.book.specs.Calls.{Call, leaves}
-use Rattle.book.specs.Memory.{Outcome, outcome, numberOf, callOn}
+use Rattle.book.specs.Calls.{Call}
+use Rattle.book.specs.Memory.{outcome, numberOf, callOn}
 use Rattle.book.proofs.Balances.{length-tab, getD-tab, fresh-head}
 use Rattle.book.proofs.Step.{number, Ok, ok-after}
 use Rattle.book.proofs.Memory.{On, adds, in-step, number-same}

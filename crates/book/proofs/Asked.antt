@@ -1,15 +1,15 @@
 -- A report on head and table: its refusals, and its acceptance on a book known to add up. One law for all three reports.
 -- Assumes nothing.
-use mathlib.Core.Path.{_≡_, refl, sym, ap, _∙_}
+use mathlib.Core.Path.{_≡_, refl, sym, _∙_}
 use mathlib.Core.Bool.{Bool, true, false, _&&_}
 use mathlib.Core.List.{List, [], _∷_}
-use Prim.Native.Nat.{ℕ, _+_, _*_, _≤_, _<_}
+use Prim.Native.Nat.{ℕ, _*_, _≤_, _<_}
 use native.Mathlib.Omega.{arith}
 use lib.Dec.{eqb}
 use lib.ListN.{length}
 use borrow.Author.Tests.{ltb-false}
 use Rattle.table.specs.declared.Piece.{Piece}
-use Rattle.table.specs.Pieces.{only, Kind, sum, held, All, done, also}
+use Rattle.table.specs.Pieces.{only, Kind, sum, All}
 use Rattle.table.specs.Table.{piecesOf, placesOf}
 use Rattle.table.proofs.Pieces.{all-map}
 use Rattle.table.proofs.Table.{places-fit}
@@ -17,12 +17,11 @@ use Rattle.refusal.specs.Numbers.{TOP, first}
 use Rattle.refusal.proofs.Numbers.{passed}
 use Rattle.book.specs.declared.Head.{Head}
 use Rattle.book.specs.declared.Reported.{Reported}
-use Rattle.book.specs.Head.{headOf, bookOf}
 use Rattle.book.specs.Calls.{ask}
 use Rattle.book.specs.Memory.{bookChecks, numberOf, callOn, reported}
 use Rattle.book.specs.Reports.{Report, heldBy, spread, whole, fromOrigin, bornWithin, reportRow, reportChecks, over}
 use Rattle.book.proofs.Memory.{refused-on, off-number, on-number}
-use Rattle.book.proofs.Known.{Known, few, vessels-fit, sound, holders, ok, on}
+use Rattle.book.proofs.Known.{Known, few, sound, ok, on}
 
 module _ (h : Head) (t : List ℕ) (q : Report) (room : List ℕ) where
   -- what the code promises of a report, with answer z and room r

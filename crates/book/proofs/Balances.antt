@@ -2,17 +2,16 @@
 -- Assumes nothing.
 use mathlib.Core.Path.{_≡_, refl, sym, ap, _∙_}
 use mathlib.Core.Bool.{Bool, true, false, cond}
-use mathlib.Core.List.{List, [], _∷_}
+use mathlib.Core.List.{List, []}
 use Prim.Native.Nat.{ℕ, zero, suc, _+_, _≤_, _<_}
 use native.Mathlib.Nat.{not-suc-le-zero, le-of-suc-le-suc}
 use native.Mathlib.Omega.{arith}
-use lib.Dec.{ltb, eqb}
-use lib.ListN.{length, getD, replicate, length-replicate}
+use lib.Dec.{ltb}
+use lib.ListN.{length, getD, replicate}
 use lib.Seq.{ext-getD}
-use borrow.Author.Tests.{ltb-true, ltb-false, lt-ltb, ne-eqb}
+use borrow.Author.Tests.{ltb-false, ne-eqb}
 use Rattle.table.specs.declared.Piece.{Piece}
 use Rattle.table.specs.Pieces.{held, All, done, also}
-use Rattle.book.specs.declared.Head.{Head}
 use Rattle.book.specs.Head.{tab, balanceOf, balancesOf, headOf, opened, emptyHead}
 
 pub length-tab : (f : ℕ → ℕ) (i n : ℕ) → length (tab f i n) ≡ n

@@ -1,15 +1,15 @@
 -- Drawing every piece's weight from its holder's balance, with nothing short and nothing left over, is that all pieces fit and the
 -- balances are their sums: each way by induction over the pieces.
 -- Assumes nothing.
-use mathlib.Core.Path.{_≡_, refl, sym, ap, _∙_}
+use mathlib.Core.Path.{_≡_, refl, sym, _∙_}
 use mathlib.Core.Bool.{Bool, true, false, _&&_}
 use mathlib.Core.List.{List, [], _∷_}
 use Prim.Native.Nat.{ℕ, zero, suc, _+_, _-_, _≤_, _<_}
 use native.Mathlib.Nat.{not-suc-le-zero, le-of-suc-le-suc}
 use native.Mathlib.Numerals.{add-one}
 use native.Mathlib.Omega.{arith}
-use lib.Dec.{leb, ltb, eqb}
-use lib.ListN.{length, getD, set, drop, length-set, drop-of-length-le}
+use lib.Dec.{leb, eqb}
+use lib.ListN.{length, getD, drop, length-set, drop-of-length-le}
 use lib.Seq.{drop-cons, getD-set-same, getD-set-other}
 use borrow.Author.Tests.{le-leb, leb-true, lt-leb, eq-eqb, eqb-true, eqb-false, ne-eqb}
 use Rattle.table.specs.declared.Piece.{Piece}
@@ -18,7 +18,7 @@ use Rattle.table.specs.Table.{piecesOf, placesOf}
 use Rattle.table.proofs.Pieces.{all-map}
 use Rattle.table.proofs.Table.{length-pieces}
 use Rattle.book.specs.declared.Head.{Head}
-use Rattle.book.specs.Head.{balancesOf, allOf, fits, pieceTests, allFit, same, addsUp}
+use Rattle.book.specs.Head.{balancesOf, fits, allFit, same, addsUp}
 use Rattle.book.specs.Audit.{covers, drawn, allZero, drained}
 use Rattle.book.proofs.Step.{Sound}
 use Rattle.book.proofs.Memory.{both, sound-fit, all-fit, fit-sound, all-sound, same-refl, same-eq}

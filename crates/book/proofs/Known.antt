@@ -1,22 +1,21 @@
 -- A head and a table that add up hold a sound book; and what the code reads off the head is what the pieces say.
 -- Assumes nothing.
-use mathlib.Core.Path.{_≡_, refl, sym, ap, _∙_}
+use mathlib.Core.Path.{_≡_, refl, sym, _∙_}
 use mathlib.Core.Bool.{Bool, true, false}
-use mathlib.Core.List.{List, [], _∷_, _++_}
-use Prim.Native.Nat.{ℕ, zero, suc, _+_, _*_, _≤_, _<_}
+use mathlib.Core.List.{List}
+use Prim.Native.Nat.{ℕ, _*_, _≤_, _<_}
 use native.Mathlib.Omega.{arith}
 use lib.Dec.{ltb}
-use lib.ListN.{length, getD, drop, List·getD-eq-default}
+use lib.ListN.{getD, drop, List·getD-eq-default}
 use borrow.Author.Tests.{leb-true, ltb-true, ltb-false}
-use Rattle.table.specs.declared.Piece.{Piece}
 use Rattle.table.specs.Pieces.{held, All}
 use Rattle.table.specs.Table.{piecesOf, placesOf}
 use Rattle.table.proofs.Pieces.{all-map}
 use Rattle.table.proofs.Table.{length-pieces, split, quad-is, places-fit}
 use Rattle.transfer.specs.Transfer.{Transfer}
-use Rattle.refusal.specs.Numbers.{TOP, first}
+use Rattle.refusal.specs.Numbers.{first}
 use Rattle.book.specs.declared.Head.{Head}
-use Rattle.book.specs.Head.{balancesOf, headOf, bookOf, bookTests, addsUp, Sized}
+use Rattle.book.specs.Head.{balancesOf, bookOf, bookTests, addsUp, Sized}
 use Rattle.book.specs.Calls.{transferChecks, checksOf}
 use Rattle.book.specs.Memory.{bookChecks, Workable}
 use Rattle.book.proofs.Balances.{Matches, balances-match, held-none}

@@ -1,23 +1,19 @@
 -- Demand 3: one claim about a whole list of calls, on the head of an accepted opening and a table of any length and content.
 -- By induction over the list, with the book that head and table hold and the weigh book beside it.
 -- Assumes nothing.
-use mathlib.Core.Path.{_≡_, refl, sym, ap, _∙_}
+use mathlib.Core.Path.{_≡_, refl, ap, _∙_}
 use mathlib.Core.List.{List, [], _∷_}
 use Prim.Native.Nat.{ℕ, zero, suc, _+_, _≤_}
 use native.Mathlib.Omega.{arith}
 use lib.ListN.{length}
-use borrow.Author.Tests.{ltb-false}
-use Rattle.table.specs.Pieces.{done}
-use Rattle.table.specs.Table.{placesOf, flat}
+use Rattle.table.specs.Table.{placesOf}
 use Rattle.refusal.specs.Numbers.{first, ifZero}
-use Rattle.refusal.proofs.Numbers.{passed}
 use Rattle.book.specs.declared.Head.{Head}
-use Rattle.book.specs.Head.{Book, bookOf, opened, openChecks, opens, opening, emptyHead}
+use Rattle.book.specs.Head.{Book, opened, openChecks, opens, opening, emptyHead}
 use Rattle.book.specs.Calls.{Call, says, leaves, noAnswer}
 use Rattle.book.specs.Memory.{Outcome, callOn}
-use Rattle.book.specs.WeighBook.{WeighBook, weighNumber, weighed, weighStep, blank, feed, listed, forecast}
+use Rattle.book.specs.WeighBook.{WeighBook, weighed, blank, feed, forecast}
 use Rattle.book.specs.Lists.{Journal, callsOn, answered, follow, transfers, evens, numbers, Demand3}
-use Rattle.book.proofs.Balances.{fresh-head}
 use Rattle.book.proofs.Step.{number, Ok, Beside, step}
 use Rattle.book.proofs.Memory.{On, back, adds, in-step}
 use Rattle.book.proofs.After.{fresh, fresh-on}

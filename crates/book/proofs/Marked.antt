@@ -3,9 +3,8 @@
 -- Assumes nothing.
 use mathlib.Core.Path.{_≡_, refl}
 use mathlib.Core.List.{List, [], _∷_, _++_, map}
-use Prim.Native.Nat.{ℕ, zero, suc, _+_, _-_}
-use lib.ListN.{length, take, replicate}
-use native.Mathlib.Omega.{arith}
+use Prim.Native.Nat.{ℕ, _+_, _-_}
+use lib.ListN.{take, replicate}
 use Rattle.table.specs.Pieces.{held}
 use Rattle.table.specs.Table.{piecesOf, flat, placesOf}
 use Rattle.transfer.specs.Selection.{precedes}

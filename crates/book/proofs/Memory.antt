@@ -1,22 +1,22 @@
 -- Head and table against the book: a head and a table that hold a sound book add up, a call on them is the call on the book, and
 -- what it leaves holds the book that the call leaves. The other way, a head and a table that add up hold a sound book.
 -- Assumes nothing.
-use mathlib.Core.Path.{_≡_, refl, sym, ap, _∙_}
-use mathlib.Core.Bool.{Bool, true, false, not, _&&_, cond}
+use mathlib.Core.Path.{_≡_, refl, sym, _∙_}
+use mathlib.Core.Bool.{Bool, true, false, not, _&&_}
 use mathlib.Core.List.{List, [], _∷_, _++_}
-use Prim.Native.Nat.{ℕ, zero, suc, _+_, _*_, _≤_, _<_}
+use Prim.Native.Nat.{ℕ, zero, suc, _+_, _*_, _≤_}
 use native.Mathlib.Omega.{arith}
-use lib.Dec.{leb, ltb, eqb}
+use lib.Dec.{ltb, eqb}
 use lib.ListN.{length, length-append, length-drop, drop}
 use borrow.Author.Tests.{le-leb, leb-true, lt-ltb, le-ltb, ltb-true, ltb-false, eq-eqb, eqb-true, ne-eqb}
 use Rattle.table.specs.declared.Piece.{Piece}
-use Rattle.table.specs.Pieces.{held, All, done, also}
-use Rattle.table.specs.Table.{piecesOf, flat, lay, placesOf}
-use Rattle.table.proofs.Table.{length-pieces, length-flat, quad-is, pieces-flat}
-use Rattle.refusal.specs.Numbers.{TOP, first, ifZero}
+use Rattle.table.specs.Pieces.{All, done, also}
+use Rattle.table.specs.Table.{flat, lay, placesOf}
+use Rattle.table.proofs.Table.{length-flat, quad-is, pieces-flat}
+use Rattle.refusal.specs.Numbers.{first, ifZero}
 use Rattle.refusal.proofs.Numbers.{passed, first-append}
 use Rattle.book.specs.declared.Head.{Head}
-use Rattle.book.specs.Head.{Book, balancesOf, headOf, bookOf, allOf, pieceTests, fits, allFit, same, bookTests, addsUp}
+use Rattle.book.specs.Head.{Book, balancesOf, headOf, bookOf, allOf, pieceTests, fits, allFit, same, addsUp}
 use Rattle.book.specs.Calls.{Call, callChecks, says, leaves, noAnswer, roomOf}
 use Rattle.book.specs.Memory.{outcome, bookChecks, numberOf, callOn}
 use Rattle.book.proofs.Step.{number, Ok, Sound, ok-after}

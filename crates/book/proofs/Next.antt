@@ -1,28 +1,27 @@
 -- A transfer on a book known to add up: what its checks, the pieces moved and the next head are together is the call on head and table.
 -- Assumes nothing.
 use mathlib.Core.Path.{_≡_, refl, sym, ap, _∙_}
-use mathlib.Core.Logic.{_≢_}
 use mathlib.Core.Bool.{Bool, true, false, cond}
-use mathlib.Core.List.{List, [], _∷_}
-use Prim.Native.Nat.{ℕ, zero, suc, _+_, _-_, _≤_, _<_, min}
+use mathlib.Core.List.{List}
+use Prim.Native.Nat.{ℕ, zero, suc, _+_, _-_, _≤_, _<_}
 use native.Mathlib.Numerals.{add-one}
 use native.Mathlib.Omega.{arith}
-use lib.Dec.{ltb, eqb}
+use lib.Dec.{eqb}
 use lib.ListN.{length, getD, set, length-set}
 use lib.Seq.{getD-set-same, getD-set-other}
-use borrow.Author.Tests.{ltb-true, ltb-false, lt-ltb, le-ltb, eqb-true, eqb-false, eq-eqb, ne-eqb}
-use Rattle.table.specs.Pieces.{only, held, All}
-use Rattle.table.specs.Table.{piecesOf, placesOf, lay}
+use borrow.Author.Tests.{ltb-false, le-ltb, eqb-true, eqb-false, ne-eqb}
+use Rattle.table.specs.Pieces.{only, held}
+use Rattle.table.specs.Table.{piecesOf, placesOf}
 use Rattle.table.proofs.Pieces.{all-map}
 use Rattle.transfer.specs.Transfer.{Transfer, Taken, taken, handed}
 use Rattle.transfer.specs.declared.Applied.{Applied}
 use Rattle.transfer.specs.Applied.{full, refused, accepted, applied, leaves, Ready, Moves}
 use Rattle.transfer.proofs.Handed.{handed-held}
-use Rattle.refusal.specs.Numbers.{TOP, _if_, orElse, first, ifZero}
+use Rattle.refusal.specs.Numbers.{_if_, orElse, first, ifZero}
 use Rattle.book.specs.declared.Head.{Head}
 use Rattle.book.specs.declared.Transferred.{Transferred}
-use Rattle.book.specs.Head.{Book, balancesOf, headOf, bookOf, Sized}
-use Rattle.book.specs.Calls.{move, transferChecks, takes, piecesAfter, checksOf}
+use Rattle.book.specs.Head.{Book, headOf, bookOf, Sized}
+use Rattle.book.specs.Calls.{move, transferChecks, takes, checksOf}
 use Rattle.book.specs.Calls as calls
 use Rattle.book.specs.Memory.{bookChecks, numberOf, callOn, transferred, Workable}
 use Rattle.book.specs.NextHead.{nextHead, Movable}

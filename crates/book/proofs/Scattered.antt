@@ -9,9 +9,9 @@ use native.Mathlib.Nat.{not-suc-le-zero, le-of-suc-le-suc}
 use native.Mathlib.Numerals.{add-one}
 use native.Mathlib.Omega.{arith}
 use lib.Dec.{ltb, eqb}
-use lib.ListN.{length, getD, set, drop, replicate, length-set, length-append, length-replicate, length-drop, drop-of-length-le, List·getD-append}
+use lib.ListN.{length, getD, drop, replicate, length-set, length-append, length-replicate, length-drop, drop-of-length-le, List·getD-append}
 use lib.Seq.{drop-cons, getD-set-same, getD-set-other, ext-getD, getD-append-add}
-use borrow.Author.Tests.{ltb-true, ltb-false, eqb-true, eqb-false, eq-eqb, ne-eqb}
+use borrow.Author.Tests.{ltb-true, ltb-false, eqb-true, eqb-false, ne-eqb}
 use Rattle.table.specs.declared.Piece.{Piece}
 use Rattle.table.specs.Pieces.{noPiece, only, total, All, done, also}
 use Rattle.table.specs.Table.{piecesOf}

@@ -2,9 +2,9 @@
 -- free the weigh book gives the call's number. Each kind of call has one lemma; `step` puts them together.
 -- Assumes nothing.
 use mathlib.Core.Path.{_≡_, refl, sym, ap, _∙_}
-use mathlib.Core.Logic.{_≢_, _↔_}
+use mathlib.Core.Logic.{_↔_}
 use mathlib.Core.Bool.{Bool, true, false}
-use mathlib.Core.List.{List, [], _∷_, _++_}
+use mathlib.Core.List.{List, [], _∷_}
 use Prim.Native.Nat.{ℕ, zero, suc, _+_, _-_, _≤_, _<_, min}
 use native.Mathlib.Omega.{arith}
 use lib.Dec.{ltb, eqb}
@@ -12,10 +12,10 @@ use lib.ListN.{length}
 use borrow.Author.Tests.{ltb-false, le-ltb, eqb-true, ne-eqb}
 use Rattle.table.specs.declared.Piece.{Piece}
 use Rattle.table.specs.Pieces.{only, sum, bornAt, held, All}
-use Rattle.transfer.specs.Transfer.{Transfer, Taken}
+use Rattle.transfer.specs.Transfer.{Transfer}
 use Rattle.transfer.proofs.Taking.{Law, taken-law}
 use Rattle.transfer.proofs.Handed.{handed-length, handed-births, handed-held, handed-all}
-use Rattle.refusal.specs.Numbers.{TOP, Check, _if_, orElse, first, ifZero}
+use Rattle.refusal.specs.Numbers.{TOP, _if_, orElse, first, ifZero}
 use Rattle.refusal.proofs.Numbers.{first-append}
 use Rattle.book.specs.Head.{Book}
 use Rattle.book.specs.Calls.{Call, move, ask, transferChecks, takes, piecesAfter, checksOf, callChecks, says, leaves, counts, evenOf}

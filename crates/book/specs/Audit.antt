@@ -1,7 +1,7 @@
 -- How the code finds in one pass whether a book adds up: each piece's weight is drawn from its holder's balance, and nothing may be
 -- short or left over. proofs/Drained.antt shows that this is what `addsUp` says.
 -- Definitions only. Assumes nothing.
-use mathlib.Core.Bool.{Bool, true, false, _&&_}
+use mathlib.Core.Bool.{Bool, true, _&&_}
 use mathlib.Core.List.{List, [], _∷_}
 use Prim.Native.Nat.{ℕ, _-_}
 use lib.Dec.{leb, eqb}

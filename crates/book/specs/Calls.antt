@@ -1,13 +1,13 @@
 -- Calls on a book: their checks in order, what each answers and what it leaves. A call is data, so that a list of calls is a list.
 -- Definitions only. Assumes nothing.
 use mathlib.Core.List.{List, [], _∷_, _++_}
-use Prim.Native.Nat.{ℕ, zero, suc, _+_}
+use Prim.Native.Nat.{ℕ, suc, _+_}
 use lib.Dec.{leb, ltb, eqb}
 use lib.ListN.{length}
 use Rattle.table.specs.declared.Piece.{Piece}
 use Rattle.table.specs.Pieces.{held}
 use Rattle.transfer.specs.Transfer.{Transfer, Taken, taken, handed}
-use Rattle.refusal.specs.Numbers.{TOP, Check, _if_, first, ifZero}
+use Rattle.refusal.specs.Numbers.{TOP, Check, _if_, ifZero}
 use Rattle.book.specs.Head.{Book}
 use Rattle.book.specs.Reports.{Report, reportRow, reportChecks, over}
 

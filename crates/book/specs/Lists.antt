@@ -11,7 +11,7 @@ use Rattle.book.specs.declared.Head.{Head}
 use Rattle.book.specs.Head.{Book, bookOf, addsUp, opened}
 use Rattle.book.specs.Calls.{Call, Answer, leaves, counts, evenOf}
 use Rattle.book.specs.Memory.{Outcome, callOn}
-use Rattle.book.specs.WeighBook.{WeighBook, blank, feed, listed, forecast}
+use Rattle.book.specs.WeighBook.{blank, feed, listed, forecast}
 
 -- a call with its number and answer
 pub record Entry : Type 0 where

@@ -1,6 +1,6 @@
 -- "Reports": held, spread and whole. What each writes, and their checks.
 -- Definitions only. Assumes nothing.
-use mathlib.Core.Bool.{Bool, true, false, _&&_}
+use mathlib.Core.Bool.{_&&_}
 use mathlib.Core.List.{List, [], _∷_, _++_}
 use Prim.Native.Nat.{ℕ, zero, suc, _*_}
 use lib.Dec.{leb, ltb, eqb}

@@ -7,7 +7,6 @@ use Prim.Native.Nat.{ℕ, _*_, _<_, _≤_}
 use mathlib.Core.Path.{_≡_, refl}
 use mathlib.Core.List.{List}
 use lib.ListN.{length, take, drop}
-use Rattle.sheet.specs.declared.answer.Reading.{Reading}
 use Rattle.sheet.specs.Names.{nameSize, shortName}
 use Rattle.sheet.specs.Movements.{givenSize, givenIn}
 use Rattle.sheet.specs.Sheet.{sheetSize, ruleOf, vesselsOf, movementsOf, readNumber}

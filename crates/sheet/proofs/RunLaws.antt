@@ -1,11 +1,11 @@
 -- The run, by what is left: the book is known to add up at every movement, and going on from here ends as going on from the start does.
 -- Assumes nothing.
 use mathlib.Core.Path.{_≡_, refl, sym, ap, _∙_}
-use mathlib.Core.List.{List, [], _∷_}
+use mathlib.Core.List.{List, _∷_}
 use Prim.Native.Nat.{ℕ, zero, suc, _+_, _*_, _≤_, _<_}
 use native.Mathlib.Numerals.{add-one}
 use native.Mathlib.Omega.{arith}
-use lib.ListN.{length, drop, getD, drop-of-length-le}
+use lib.ListN.{length, drop, drop-of-length-le}
 use lib.Seq.{drop-drop}
 use borrow.Author.Tests.{lt-ltb, le-ltb}
 use Rattle.transfer.specs.Transfer.{Transfer}
@@ -14,7 +14,7 @@ use Rattle.book.specs.declared.Head.{Head}
 use Rattle.book.specs.declared.Transferred.{Transferred}
 use Rattle.book.specs.declared.Opened.{Opened}
 use Rattle.book.specs.Head.{emptyHead, openChecks, opening}
-use Rattle.book.specs.Calls.{move, evenOf}
+use Rattle.book.specs.Calls.{move}
 use Rattle.book.specs.Memory.{Outcome, callOn, transferOf, transferred, Workable}
 use Rattle.book.proofs.Memory.{refused-memory}
 use Rattle.book.proofs.Known.{work-known}

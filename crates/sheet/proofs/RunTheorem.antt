@@ -12,11 +12,11 @@ use Rattle.book.specs.declared.Head.{Head}
 use Rattle.book.specs.Head.{emptyHead}
 use Rattle.book.specs.Calls.{Call, move, evenOf}
 use Rattle.book.specs.Memory.{Outcome, callOn}
-use Rattle.book.specs.Lists.{Journal, callsOn, evens, numbers, Demand3}
+use Rattle.book.specs.Lists.{callsOn, evens, numbers, Demand3}
 use Rattle.book.proofs.Memory.{refused-memory}
 use Rattle.book.proofs.Lists.{opened-demand}
 use Rattle.sheet.specs.Sheet.{ruleOf, vesselsOf, movementsOf, readNumber}
-use Rattle.sheet.specs.Run.{transfersOf, Running, ended, goOn, runFrom, runNumber, running}
+use Rattle.sheet.specs.Run.{transfersOf, Running, goOn, runFrom, runNumber, running}
 use Rattle.sheet.proofs.CheckLaws.{first-zero}
 use Rattle.sheet.proofs.GroupLaws.{length-groups}
 use Rattle.sheet.proofs.RunLaws.{opens-well}

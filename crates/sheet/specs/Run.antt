@@ -5,7 +5,7 @@ use mathlib.Core.List.{List, [], _∷_}
 use Prim.Native.Nat.{ℕ, zero, suc, _+_, _*_}
 use lib.Dec.{ltb}
 use lib.ListN.{length, drop}
-use Rattle.refusal.specs.Numbers.{Check, _if_, first, ifZero}
+use Rattle.refusal.specs.Numbers.{_if_, first, ifZero}
 use Rattle.transfer.specs.Transfer.{Transfer}
 use Rattle.book.specs.declared.Head.{Head}
 use Rattle.book.specs.Head.{emptyHead}

@@ -1,13 +1,12 @@
 // A run of a sheet: its movements made one after the other on a fresh book.
 ghost use mathlib.Core.Path.{_≡_};
 ghost use Prim.Native.Nat.{_<_, _≤_, _+_};
-ghost use lib.ListN.{length};
 ghost use Rattle.refusal.specs.Numbers.{ifZero};
 ghost use Rattle.book.specs.Head.{emptyHead};
 ghost use Rattle.book.specs.Calls.{move};
 ghost use Rattle.book.specs.Memory.{transferred, callOn, Workable};
 ghost use Rattle.sheet.specs.Sheet.{movementsOf, readNumber};
-ghost use Rattle.sheet.specs.Run.{transferAt, transfersOf, ended, runFrom, running};
+ghost use Rattle.sheet.specs.Run.{transferAt, transfersOf, runFrom, running};
 use crate::answer::Ran;
 use book::Head;
 use book::Transferred;

@@ -1,7 +1,7 @@
 -- A transfer in document 01's own words, where each picked piece joins the end at once, leaves the same pieces and says the same
 -- as taking first and handing over later. What was moved already lies behind, held by d, and is never picked again.
 -- Assumes nothing.
-use mathlib.Core.Path.{_≡_, refl, ap, _∙_}
+use mathlib.Core.Path.{_≡_, refl, ap}
 use mathlib.Core.Logic.{_≢_}
 use mathlib.Core.Bool.{Bool, true, false, cond}
 use mathlib.Core.List.{List, [], _∷_, _++_, map, append-assoc, append-nil}

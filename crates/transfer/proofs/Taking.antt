@@ -1,17 +1,17 @@
 -- What every taking leaves, shown once, over any selection that picks a piece of the source while there is one: nothing is lost, the
 -- given pieces and what is born make up the weight wanted, and at most one piece more comes of it. `taken-law` says it of the four rules.
 -- Assumes nothing.
-use mathlib.Core.Path.{_≡_, refl, sym, ap, _∙_}
+use mathlib.Core.Path.{_≡_, refl, ap}
 use mathlib.Core.Logic.{_≢_}
 use mathlib.Core.Bool.{Bool, true, false, cond}
 use mathlib.Core.List.{List, [], _∷_, _++_}
-use Prim.Native.Nat.{ℕ, zero, suc, _+_, _-_, _≤_, _<_, min}
+use Prim.Native.Nat.{ℕ, zero, suc, _+_, _-_, _≤_, min}
 use native.Mathlib.Omega.{arith}
 use lib.Dec.{leb, eqb}
 use lib.ListN.{length, length-append}
 use borrow.Author.Tests.{leb-true, leb-false, eqb-true, eqb-false, eq-eqb}
 use Rattle.table.specs.declared.Piece.{Piece}
-use Rattle.table.specs.Pieces.{ofWeight, total, Kind, weigh, sum, inVessel, held, weightOf, All, done, also}
+use Rattle.table.specs.Pieces.{ofWeight, Kind, weigh, sum, inVessel, held, weightOf, All, done, also}
 use Rattle.table.proofs.Pieces.{total-append, in-two, all-append, all-split, all-head, all-tail}
 use Rattle.transfer.specs.Selection.{Found, nothing, at, behind, against, select, wins}
 use Rattle.transfer.specs.Transfer.{Transfer, Taken, stop, takeFrom, takeFound, takeNext, takeUpTo, taken}

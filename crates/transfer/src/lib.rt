@@ -1,6 +1,5 @@
 // The pieces part of a transfer, in a constant number of passes over the table: the source's pieces are put in picking order, a plan
 // is made, and only if there is room for what it leaves is it applied.
-ghost use Rattle.transfer.specs.Transfer.{Transfer};
 ghost use Rattle.transfer.specs.Applied.{Ready, Moves};
 
 pub mod apply;

@@ -1,7 +1,7 @@
 -- `reports::add_spread` meets its contract. The invariant: entering the pieces left makes the report that is wanted.
 -- Assumes nothing.
 use borrow.Author.Needs.{needs}
-use Prim.Native.Nat.{_+_, _*_, _-_, _<_, _≤_}
+use Prim.Native.Nat.{_-_, _≤_}
 use mathlib.Core.Path.{_≡_, refl}
 use lib.ListN.{length, drop}
 use Rattle.table.specs.Table.{piecesOf}

@@ -1,6 +1,5 @@
 -- `reports::fill_held` meets its contract: the numbers are cleared, and then each becomes the sum of its kind.
 -- Assumes nothing.
-use Rattle.table.specs.Table.{piecesOf}
 use Rattle.book.specs.Scatter.{isHeld, byOrigin}
 use Rattle.book.proofs.Scattered.{fillable, filled}
 use borrow.Author.Needs.{needs}
