@@ -1,3 +1,5 @@
+-- `table::piece_at` meets its contract: the four numbers at place i are the piece there.
+-- Assumes nothing.
 use borrow.Author.Needs.{needs}
 use Rattle.table.proofs.Table.{piece-law}
 use Rattle.table.proofs.piece_at.Statement.{statement}

@@ -1,3 +1,5 @@
+-- `table::put_piece` meets its contract: four stores at place i are the piece put there.
+-- Assumes nothing.
 use borrow.Author.Needs.{needs}
 use native.Mathlib.Omega.{arith}
 use lib.ListN.{length-set}

@@ -1,3 +1,5 @@
+-- `audit::all_zero` meets its contract. The invariant: the numbers left are all zero where all are.
+-- Assumes nothing.
 use borrow.Author.Needs.{needs}
 use Prim.Native.Nat.{_-_, _≤_}
 use mathlib.Core.Path.{_≡_, refl}

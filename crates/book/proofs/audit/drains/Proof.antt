@@ -1,3 +1,6 @@
+-- `audit::drains` meets its contract. The invariant: drawing the pieces left from what is left of the balances ends as drawing all from all does.
+-- The measure is how many pieces are left.
+-- Assumes nothing.
 use borrow.Author.Needs.{needs}
 use Prim.Native.Nat.{_-_, _≤_}
 use mathlib.Core.Path.{_≡_, refl}
