@@ -1,4 +1,9 @@
 -- "Numbers and their words": the refusal numbers, and the first check that applies. Every call's checks are a list of these.
+-- The words, with the condition of each at the check that gives it:
+--    1 no tray         2 rule unknown   3 vessel count   4 book off       5 no vessel
+--    6 same tub        7 empty scoop    8 clock back     9 overfull      10 tally full
+--   11 tray full      12 span back     13 short form    14 no sheet      15 movements
+--   16 layout         17 name          18 filler        19 short paper   20 past the end
 -- Definitions only. Assumes nothing.
 use mathlib.Core.Bool.{Bool, true, false}
 use mathlib.Core.List.{List, [], _∷_}
