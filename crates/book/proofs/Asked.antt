@@ -3,7 +3,7 @@
 use mathlib.Core.Path.{_≡_, refl, sym, _∙_}
 use mathlib.Core.Bool.{Bool, true, false, _&&_}
 use mathlib.Core.List.{List, [], _∷_}
-use Prim.Native.Nat.{ℕ, _*_, _≤_, _<_}
+use Prim.Native.Nat.{ℕ, _*_, _≤_, _<_, zero, suc}
 use native.Mathlib.Omega.{arith}
 use lib.Dec.{eqb}
 use lib.ListN.{length}
@@ -12,15 +12,15 @@ use Rattle.table.specs.declared.Piece.{Piece}
 use Rattle.table.specs.Pieces.{only, Kind, sum, All}
 use Rattle.table.specs.Table.{piecesOf, placesOf}
 use Rattle.table.proofs.Pieces.{all-map}
-use Rattle.table.proofs.Table.{places-fit}
+use Rattle.table.proofs.Table.{length-pieces, places-fit}
 use Rattle.refusal.specs.Numbers.{TOP, first}
 use Rattle.refusal.proofs.Numbers.{passed}
 use Rattle.book.specs.declared.Head.{Head}
 use Rattle.book.specs.declared.Reported.{Reported}
 use Rattle.book.specs.Calls.{ask}
-use Rattle.book.specs.Memory.{bookChecks, numberOf, callOn, reported}
+use Rattle.book.specs.Memory.{outcome, bookChecks, numberOf, callOn, reported}
 use Rattle.book.specs.Reports.{Report, heldBy, spread, whole, fromOrigin, bornWithin, reportRow, reportChecks, over}
-use Rattle.book.proofs.Memory.{refused-on, off-number, on-number}
+use Rattle.book.proofs.Memory.{refused-on, off-number, on-number, passed-book, book-passed, adds-head, adds-table}
 use Rattle.book.proofs.Known.{Known, few, sound, ok, on}
 
 module _ (h : Head) (t : List ℕ) (q : Report) (room : List ℕ) where
@@ -92,3 +92,12 @@ module _ (size room n : ℕ) (zn : n ≡ 0) where
   pub whole-room : n ≡ first (reportChecks size room whole) → size * size ≤ room
   unfolding reportChecks
   whole-room e = ltb-false _ _ (passed (reportChecks size room whole) tt (sym e ∙ zn) .0)
+
+-- REPORTS CHANGE NOTHING: refused or accepted, the head and the table are as they were.
+pub asked-nothing : (h : Head) (t : List ℕ) (q : Report) (room : List ℕ) → ((callOn h t (ask q room)) .head ≡ h) × ((callOn h t (ask q room)) .table ≡ t)
+unfolding callOn
+asked-nothing h t q room = go (numberOf h t (ask q room)) refl
+  where
+    go : (n : ℕ) → numberOf h t (ask q room) ≡ n → ((outcome h t (ask q room) n) .head ≡ h) × ((outcome h t (ask q room) n) .table ≡ t)
+    go zero e = let a = book-passed h t (passed-book h t (ask q room) e) .1 in (sym (adds-head h t a), rw length-pieces (sym (adds-table h t a)))
+    go (suc n) e = (refl, refl)

@@ -20,7 +20,7 @@ use Rattle.book.specs.Calls.{transferChecks, checksOf}
 use Rattle.book.specs.Memory.{bookChecks, Workable}
 use Rattle.book.proofs.Balances.{Matches, balances-match, held-none}
 use Rattle.book.proofs.Step.{Ok, Sound}
-use Rattle.book.proofs.Memory.{On, Hold, hold, all-sound, same-eq, book-passed}
+use Rattle.book.proofs.Memory.{On, Hold, all-sound, same-eq, book-passed, book-tests, adds-head, adds-table}
 
 -- A book in memory that adds up.
 pub record Known (h : Head) (t : List ℕ) : Type 0 where
@@ -37,8 +37,7 @@ work-known w = record { adds-up = w .adds-up; sized = w .sized }
 
 module _ (h : Head) (t : List ℕ) (k : Known h t) where
   tests : Hold (bookTests h t)
-  unfolding addsUp
-  tests = hold (bookTests h t) (k .adds-up)
+  tests = book-tests h t (k .adds-up)
 
   pub few : h .pieces ≤ placesOf t
   few = leb-true _ _ (tests .1 .1 .1 .0)
@@ -83,8 +82,8 @@ module _ (h : Head) (t : List ℕ) (k : Known h t) where
   pub on : On (placesOf t) h t (bookOf h t)
   on = record {
     tail = drop (4 * h .pieces) t;
-    head-is = rw (length-pieces (h .pieces) t, ← balances-are);
-    table-is = rw quad-is (split (h .pieces) t (rw quad-is at (places-fit t (h .pieces) (placesOf t) refl few)));
+    head-is = adds-head h t (k .adds-up);
+    table-is = adds-table h t (k .adds-up);
     places-is = refl;
   }
 

@@ -10,4 +10,5 @@ pub mod Filling
 pub mod Asked
 pub mod After
 pub mod Lists
+pub mod Carrying
 pub mod Marked

@@ -11,12 +11,12 @@ use lib.ListN.{length, length-append, length-drop, drop}
 use borrow.Author.Tests.{le-leb, leb-true, lt-ltb, le-ltb, ltb-true, ltb-false, eq-eqb, eqb-true, ne-eqb}
 use Rattle.table.specs.declared.Piece.{Piece}
 use Rattle.table.specs.Pieces.{All, done, also}
-use Rattle.table.specs.Table.{flat, lay, placesOf}
-use Rattle.table.proofs.Table.{length-flat, quad-is, pieces-flat}
+use Rattle.table.specs.Table.{flat, lay, placesOf, piecesOf}
+use Rattle.table.proofs.Table.{length-flat, quad-is, pieces-flat, length-pieces, formed, places-fit}
 use Rattle.refusal.specs.Numbers.{first, ifZero}
 use Rattle.refusal.proofs.Numbers.{passed, first-append}
 use Rattle.book.specs.declared.Head.{Head}
-use Rattle.book.specs.Head.{Book, balancesOf, headOf, bookOf, allOf, pieceTests, fits, allFit, same, addsUp}
+use Rattle.book.specs.Head.{Book, balancesOf, headOf, bookOf, allOf, pieceTests, fits, allFit, same, addsUp, bookTests}
 use Rattle.book.specs.Calls.{Call, callChecks, says, leaves, noAnswer, roomOf}
 use Rattle.book.specs.Memory.{outcome, bookChecks, numberOf, callOn}
 use Rattle.book.proofs.Step.{number, Ok, Sound, ok-after}
@@ -85,6 +85,14 @@ off-number h t c n e nz = number-split h t c ∙ rw (← e) (go n nz)
 
 pub on-number : (h : Head) (t : List ℕ) (c : Call) (n : ℕ) → n ≡ first (bookChecks h t) → n ≡ 0 → numberOf h t c ≡ first (callChecks (placesOf t) (bookOf h t) c)
 on-number h t c n e z = number-split h t c ∙ rw (← e, z)
+
+-- a call that is accepted has passed checks 1 and 4
+pub passed-book : (h : Head) (t : List ℕ) (c : Call) → numberOf h t c ≡ 0 → first (bookChecks h t) ≡ 0
+passed-book h t c e = go (first (bookChecks h t)) (sym (number-split h t c) ∙ e)
+  where
+    go : (n : ℕ) → ifZero n (first (callChecks (placesOf t) (bookOf h t) c)) n ≡ 0 → n ≡ 0
+    go zero u = refl
+    go (suc n) u = u
 
 -- checks 1 and 4 are passed
 pub book-passed : (h : Head) (t : List ℕ) → first (bookChecks h t) ≡ 0 → (4 ≤ length t) × (addsUp h t ≡ true)
@@ -178,3 +186,15 @@ same-eq [] [] e = refl
 same-eq [] (y ∷ ys) e = cc
 same-eq (x ∷ xs) [] e = cc
 same-eq (x ∷ xs) (y ∷ ys) e = let u = both (eqb x y) (same xs ys) e in rw (eqb-true x y (u .0), same-eq xs ys (u .1))
+
+-- a head and a table that add up are the head and the table of their book
+module _ (h : Head) (t : List ℕ) (a : addsUp h t ≡ true) where
+  pub book-tests : Hold (bookTests h t)
+  unfolding addsUp
+  book-tests = hold (bookTests h t) a
+
+  pub adds-head : h ≡ headOf (bookOf h t)
+  adds-head = rw (length-pieces (h .pieces) t, ← same-eq (h .balances) _ (book-tests .1 .1 .1 .1 .1 .1 .0))
+
+  pub adds-table : t ≡ flat (piecesOf (h .pieces) t) ++ drop (4 * h .pieces) t
+  adds-table = formed (h .pieces) t (places-fit t (h .pieces) (placesOf t) refl (leb-true _ _ (book-tests .1 .1 .1 .0)))

@@ -7,3 +7,4 @@ pub mod Memory
 pub mod NextHead
 pub mod WeighBook
 pub mod Lists
+pub mod Carried
