@@ -11,7 +11,7 @@ use borrow.Author.Tests.{leb-true, ltb-true, ltb-false}
 use Rattle.table.specs.Pieces.{held, All}
 use Rattle.table.specs.Table.{piecesOf, placesOf}
 use Rattle.table.proofs.Pieces.{all-map}
-use Rattle.table.proofs.Table.{length-pieces, split, quad-is, places-fit}
+use Rattle.table.proofs.Table.{length-pieces}
 use Rattle.transfer.specs.Transfer.{Transfer}
 use Rattle.refusal.specs.Numbers.{first}
 use Rattle.book.specs.declared.Head.{Head}

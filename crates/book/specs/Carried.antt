@@ -7,7 +7,6 @@ use mathlib.Core.List.{List, [], _∷_, _++_}
 use Prim.Native.Nat.{ℕ, zero, suc, _/_, min}
 use lib.Dec.{eqb}
 use lib.ListN.{length, getD, drop}
-use Rattle.refusal.specs.Numbers.{ifZero}
 use Rattle.book.specs.declared.Head.{Head}
 use Rattle.book.specs.declared.Opened.{Opened}
 use Rattle.book.specs.Head.{opening}

@@ -4,7 +4,7 @@ ghost use mathlib.Core.List.{_++_};
 ghost use Prim.Native.Nat.{_≤_, _+_, _*_, min};
 ghost use lib.ListN.{length, drop};
 ghost use Rattle.book.specs.Memory.{callOn, reported};
-ghost use Rattle.book.specs.Carried.{callSize, callIn, roomLeft, carried, countCalls, CarriesOut};
+ghost use Rattle.book.specs.Carried.{callSize, callIn, roomLeft, carried, CarriesOut};
 use super::Head;
 use super::Opened;
 use super::Reported;

@@ -1,0 +1,4 @@
+-- Laws that belong to no one function.
+pub mod TextLaws
+pub mod LineLaws
+pub mod RunListing

@@ -1,0 +1,31 @@
+-- The run yields its answer and its table, and the listing of these is the sheet's.
+-- Assumes nothing.
+use Rattle.listing.proofs.RunListing.{list-ready, list-done}
+use borrow.Author.Needs.{needs}
+use Rattle.listing.proofs.list_sheet.Statement.{statement}
+use Rattle.listing.proofs.list_sheet.Tie as tie
+use Rattle.listing.proofs.list_sheet.Reads as reads
+use Rattle.listing.proofs.list_sheet.Lts as lts
+use Rattle.listing.proofs.put_listing.Reads as put-listing-reads
+use Rattle.sheet.proofs.run.run.Reads as run-reads
+
+run-requires : tie.Need-run-requires
+run-requires c κs = search needs
+
+put-listing-requires : tie.Need-put-listing-requires
+put-listing-requires c κs = list-ready _ _ _ _ (c .before .before .before .before .run .ensures) _ (c .before .before .before .before .before .before .before .before .before .pre)
+
+same-length : tie.Need-same-length
+same-length c = search needs
+
+same-length-2 : tie.Need-same-length-2
+same-length-2 c = search needs
+
+returns : tie.Need-returns
+returns c =
+    let ran = c .before .before .before .before .before .before .before .run .ensures in
+    (list-done _ _ _ _ ran _ _ _ (c .before .before .put-listing .ensures), ran .1)
+
+pub list-sheet-spec : {M : Type 1} → statement M
+list-sheet-spec =
+    tie.close (tie.spec run-requires put-listing-requires same-length same-length-2 returns)

@@ -1,0 +1,71 @@
+-- Four numbers with spaces between them and the newline, put one behind the other, are the line of a piece.
+-- Assumes nothing.
+use native.Mathlib.Omega.{arith}
+use Rattle.listing.proofs.TextLaws.{then}
+use Rattle.listing.specs.Listing.{pieceLine}
+use borrow.Author.Needs.{needs}
+use Rattle.listing.proofs.put_piece.Statement.{statement}
+use Rattle.listing.proofs.put_piece.Tie as tie
+use Rattle.listing.proofs.put_piece.Reads as reads
+use Rattle.listing.proofs.put_piece.Lts as lts
+use Rattle.listing.proofs.text.put_number.Reads as put-number-reads
+use Rattle.listing.proofs.text.put_text.Reads as put-text-reads
+use Rattle.listing.proofs.text.put_word.Reads as put-word-reads
+
+put-number-requires : tie.Need-put-number-requires
+put-number-requires c κs = search needs
+
+slice-aggregate-put-word : tie.Need-slice-aggregate-put-word
+slice-aggregate-put-word c = search needs
+
+put-word-requires : tie.Need-put-word-requires
+put-word-requires c κs = search needs
+
+slice-aggregate-put-word-2 : tie.Need-slice-aggregate-put-word-2
+slice-aggregate-put-word-2 c = search needs
+
+put-word-requires-2 : tie.Need-put-word-requires-2
+put-word-requires-2 c κs = search needs
+
+slice-aggregate-put-word-3 : tie.Need-slice-aggregate-put-word-3
+slice-aggregate-put-word-3 c = search needs
+
+put-word-requires-3 : tie.Need-put-word-requires-3
+put-word-requires-3 c κs = search needs
+
+slice-aggregate-put-text : tie.Need-slice-aggregate-put-text
+slice-aggregate-put-text c = search needs
+
+put-text-requires : tie.Need-put-text-requires
+put-text-requires c κs = search needs
+
+same-length : tie.Need-same-length
+same-length c = search needs
+
+returns : tie.Need-returns
+unfolding pieceLine
+returns c =
+    let last = c .before .before in
+    let four = last .before .before .before .before .before in
+    let three = four .before .before .before .before .before in
+    let two = three .before .before .before .before .before in
+    let one = two .before .before .before .before .before in (
+      then (then (then (then (one .put-number .ensures .0) (two .put-word .ensures .0)) (three .put-word2 .ensures .0)) (four .put-word3 .ensures .0)) (last .put-text .ensures),
+      omega (arith, one .put-number .ensures .1, two .put-word .ensures .1, three .put-word2 .ensures .1, four .put-word3 .ensures .1, last .put-text .ensures .next-is),
+    )
+
+pub put-piece-spec : {M : Type 1} → statement M
+put-piece-spec =
+    tie.close
+    (tie.spec
+    put-number-requires
+    slice-aggregate-put-word
+    put-word-requires
+    slice-aggregate-put-word-2
+    put-word-requires-2
+    slice-aggregate-put-word-3
+    put-word-requires-3
+    slice-aggregate-put-text
+    put-text-requires
+    same-length
+    returns)

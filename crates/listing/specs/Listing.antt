@@ -1,0 +1,81 @@
+-- The listing of a run: "prints in decimal ... Lines after the first: holder, origin, birth, weight. A stopped run adds a last line
+-- `stopped I at N` (index, refusal number); a run refused by its sheet or by 1 prints only `refused N`."
+-- Every line ends with one newline. Definitions only. Assumes nothing.
+use mathlib.Core.List.{List, [], _∷_, _++_}
+use mathlib.Core.Path.{_≡_}
+use Prim.Native.Nat.{ℕ, _+_, _*_, _≤_}
+use lib.ListN.{length, drop}
+use lib.Seq.{sets}
+use Rattle.refusal.specs.Numbers.{ifZero}
+use Rattle.table.specs.declared.Piece.{Piece}
+use Rattle.table.specs.Table.{piecesOf}
+use Rattle.book.specs.declared.Head.{Head}
+use Rattle.sheet.specs.declared.answer.Ran.{Ran}
+use Rattle.sheet.specs.Run.{running}
+use Rattle.listing.specs.Digits.{decimal}
+use Rattle.listing.specs.Words.{vesselsWord, ruleWord, acceptedWord, piecesWord, evenWord, stoppedWord, atWord, refusedWord, space, newline}
+
+-- a word and the number behind it
+abbrev pub word : List ℕ → ℕ → List ℕ
+word text n = text ++ decimal n
+
+-- "vessels V rule R accepted A pieces P even E"
+unfoldable pub firstLine : Head → ℕ → List ℕ
+firstLine h even =
+    word vesselsWord (h .vessels) ++ word ruleWord (h .rule) ++ word acceptedWord (h .accepted) ++ word piecesWord (h .pieces) ++ word evenWord even ++ newline
+
+-- "holder, origin, birth, weight"
+unfoldable pub pieceLine : Piece → List ℕ
+pieceLine p = decimal (p .holder) ++ word space (p .origin) ++ word space (p .birth) ++ word space (p .weight) ++ newline
+
+unfoldable pub pieceLines : List Piece → List ℕ
+pieceLines [] = []
+pieceLines (p ∷ ps) = pieceLine p ++ pieceLines ps
+
+-- "stopped I at N"
+unfoldable pub stoppedLine : ℕ → ℕ → List ℕ
+stoppedLine index number = word stoppedWord index ++ word atWord number ++ newline
+
+-- "refused N"
+unfoldable pub refusedLine : ℕ → List ℕ
+refusedLine number = word refusedWord number ++ newline
+
+-- the last line of a stopped run
+abbrev pub lastLine : ℕ → ℕ → List ℕ
+lastLine index number = ifZero number [] (stoppedLine index number)
+
+-- what a run prints that ended with a book of these pieces
+unfoldable pub bookText : Ran → List Piece → List ℕ
+bookText r ps = firstLine (r .head) (r .even) ++ pieceLines ps ++ lastLine (r .index) (r .number)
+
+-- What a run prints. A run refused by its sheet or by 1 has a head of zeros, and a book has a vessel at least: so a head without
+-- vessels tells that the run was refused.
+unfoldable pub listingText : Ran → List Piece → List ℕ
+listingText r ps = ifZero (r .head .vessels) (refusedLine (r .number)) (bookText r ps)
+
+-- the listing of a run that left this table
+abbrev pub listingOf : Ran → List ℕ → List ℕ
+listingOf r t = listingText r (piecesOf (r .head .pieces) t)
+
+-- the listing of a sheet's run on a table
+abbrev pub sheetListing : List ℕ → List ℕ → List ℕ
+sheetListing s t = listingOf ((running s t) .answer) ((running s t) .table)
+
+-- room for the listing of so many pieces: 89 bytes for the first line, 44 for a piece, 33 for the last line
+abbrev pub roomFor : ℕ → ℕ
+roomFor n = 122 + 44 * n
+
+-- room for every listing: no table has more than 4,096 places
+abbrev pub listingRoom : ℕ
+listingRoom = 180346
+
+-- A text put into bytes at an index: the index behind it, and the bytes after.
+pub record Put (before : List ℕ) (at : ℕ) (text : List ℕ) (next : ℕ) (after : List ℕ) : Type 0 where
+  pub next-is : next ≡ at + length text
+  pub after-is : after ≡ sets before at text
+
+-- A text at the start of bytes: its length, which they have room for, and the bytes after. Those behind the text remain.
+pub record Listed (before text : List ℕ) (count : ℕ) (after : List ℕ) : Type 0 where
+  pub count-is : count ≡ length text
+  pub room : count ≤ length after
+  pub after-is : after ≡ text ++ drop (length text) before
