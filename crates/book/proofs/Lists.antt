@@ -1,7 +1,7 @@
 -- Demand 3: one claim about a whole list of calls, on the head of an accepted opening and a table of any length and content.
 -- By induction over the list, with the book that head and table hold and the weigh book beside it.
 -- Assumes nothing.
-use mathlib.Core.Path.{_≡_, refl, ap, _∙_}
+use mathlib.Core.Path.{_≡_, refl, sym, ap, _∙_}
 use mathlib.Core.List.{List, [], _∷_}
 use Prim.Native.Nat.{ℕ, zero, suc, _+_, _≤_}
 use native.Mathlib.Omega.{arith}
@@ -98,3 +98,8 @@ demand-3 rule size e t cs = go (first (openChecks rule size)) refl e
     go : (n : ℕ) → first (openChecks rule size) ≡ n → (opens rule size n) .number ≡ 0 → Demand3 rule size t cs (callsOn ((opens rule size n) .head) t cs)
     go zero z u = opened-demand rule size z t cs
     go (suc n) z u = absurd (omega arith)
+
+-- "the same under all four rules": where there are places enough, two books of any rules give a list's transfers the same numbers.
+pub rules-alike : (one other size : ℕ) → (opening one size) .number ≡ 0 → (opening other size) .number ≡ 0 → (t u : List ℕ) (cs : List Call) → transfers cs ≤ placesOf t → transfers cs ≤ placesOf u
+    → numbers ((callsOn ((opening one size) .head) t cs) .log) ≡ numbers ((callsOn ((opening other size) .head) u cs) .log)
+rules-alike one other size e f t u cs h k = demand-3 one size e t cs .forecasts h ∙ sym (demand-3 other size f u cs .forecasts k)
