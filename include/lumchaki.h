@@ -8,7 +8,7 @@
  * A pointer is followed by the count of elements that it lends. It may not be null, not even with
  * the count 0. What is lent for writing may not overlap anything else that is lent to the call.
  *
- * Link with target/staticlib/liblumchaki.a. A transfer or a run needs about 256 KiB of stack. */
+ * Link with target/staticlib/liblumchaki.a. A transfer or a run needs less than 192 KiB of stack. */
 #ifndef LUMCHAKI_H
 #define LUMCHAKI_H
 
