@@ -2,3 +2,5 @@
 pub mod TextLaws
 pub mod LineLaws
 pub mod RunListing
+pub mod Decimal
+pub mod Published

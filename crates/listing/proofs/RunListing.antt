@@ -16,7 +16,7 @@ use Rattle.sheet.specs.declared.answer.Ran.{Ran}
 use Rattle.sheet.specs.Run.{Running, ended, runNumber, running}
 use Rattle.sheet.proofs.CheckLaws.{not-zero}
 use Rattle.sheet.proofs.RunTheorem.{run-theorem}
-use Rattle.listing.specs.Listing.{Listed, listingText, bookText, refusedLine, listingOf, sheetListing, roomFor}
+use Rattle.listing.specs.Listing.{Listed, listingText, bookText, refusedLine, listingOf, sheetListing, roomFor, listingRoom}
 
 few-places : (t : List ℕ) → placesOf t ≤ 4096
 unfolding placesOf
@@ -70,7 +70,7 @@ module _ (s t : List ℕ) where
 
 -- `list_sheet`: the answer and the table are the run's, and there is room for the listing
 module _ (s t t′ : List ℕ) (ran : Ran) (e : (ran ≡ (running s t) .answer) × (t′ ≡ (running s t) .table)) where
-  pub list-ready : (room : ℕ) → 180346 ≤ room → (4 * ran .head .pieces ≤ length t′) × (roomFor (ran .head .pieces) ≤ room)
+  pub list-ready : (room : ℕ) → listingRoom ≤ room → (4 * ran .head .pieces ≤ length t′) × (roomFor (ran .head .pieces) ≤ room)
   list-ready room h = let f = fitting s t in (rw (e .0, e .1) (f .pieces-lie), rw (e .0) (omega (arith, f .few)))
 
   pub list-done : (l l′ : List ℕ) (n : ℕ) → Listed l (listingOf ran t′) n l′ → Listed l (sheetListing s t) n l′

@@ -1,13 +1,12 @@
 -- Laws of texts put one behind the other, and of the loop that spells a number: the digits left, before those put, are all of them.
 -- Assumes nothing.
-use Prim.Native.Nat.{ℕ, zero, suc, _+_, _-_, _*_, _/_, _%_, _^_, _<_, _≤_}
+use Prim.Native.Nat.{ℕ, zero, suc, _+_, _-_, _/_, _^_, _<_, _≤_}
 use native.Mathlib.Nat.{pow-succ'}
 use native.Mathlib.Omega.{arith}
 use mathlib.Core.Path.{_≡_, refl, sym, ap, _∙_}
 use mathlib.Core.List.{List, [], _∷_, _++_, append-assoc}
 use lib.ListN.{length, take, drop, set, length-append, length-drop, length-set, drop-of-length-le}
 use lib.Seq.{sets, take-all, drop-cons, drop-set-lt, getD-set-same}
-use Rattle.refusal.specs.Numbers.{ifZero}
 use Rattle.sheet.proofs.PutLaws.{put-then, copy-end}
 use Rattle.listing.specs.Digits.{lastDigit, digits, decimal}
 use Rattle.listing.specs.Listing.{Put}
@@ -19,12 +18,12 @@ then {l} {l₁} {l₂} {a} {b} {at} {i} {j} p q = record {
   after-is = put-then l l₁ l₂ a b at i (p .next-is) (p .after-is) (q .after-is);
 }
 
-no-digits : (k : ℕ) → digits k 0 ≡ []
+pub no-digits : (k : ℕ) → digits k 0 ≡ []
 unfolding digits
 no-digits zero = refl
 no-digits (suc k) = refl
 
-more-digits : (k n : ℕ) → 0 < n → digits (suc k) n ≡ digits k (n / 10) ++ (lastDigit n ∷ [])
+pub more-digits : (k n : ℕ) → 0 < n → digits (suc k) n ≡ digits k (n / 10) ++ (lastDigit n ∷ [])
 unfolding digits
 more-digits k zero h = absurd (omega arith)
 more-digits k (suc n) h = refl

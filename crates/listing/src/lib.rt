@@ -1,8 +1,7 @@
 // The listing of a run as text, put into bytes that the caller lends.
 ghost use mathlib.Core.Path.{_≡_};
-ghost use mathlib.Core.List.{_++_};
-ghost use Prim.Native.Nat.{_+_, _*_, _<_, _≤_};
-ghost use lib.ListN.{length, drop};
+ghost use Prim.Native.Nat.{_+_, _*_, _≤_};
+ghost use lib.ListN.{length};
 ghost use Rattle.table.specs.Table.{piecesOf};
 ghost use Rattle.sheet.specs.Run.{running};
 ghost use Rattle.listing.specs.Listing.{Put, Listed, firstLine, pieceLine, pieceLines, stoppedLine, refusedLine, lastLine, bookText, listingOf, sheetListing, roomFor, listingRoom};
@@ -39,8 +38,8 @@ fn put_piece(out: &mut [u8], at: usize, p: Piece) -> usize
     let origin_at = put_number(out, at, p.holder);
     let birth_at = put_word(out, origin_at, b" ", p.origin);
     let weight_at = put_word(out, birth_at, b" ", p.birth);
-    let behind = put_word(out, weight_at, b" ", p.weight);
-    put_text(out, behind, b"\n")
+    let newline_at = put_word(out, weight_at, b" ", p.weight);
+    put_text(out, newline_at, b"\n")
 }
 
 // The lines of n pieces.
@@ -63,8 +62,8 @@ fn put_stopped(out: &mut [u8], at: usize, index: u32, number: u32) -> usize
     requires { ⌜ at + 33 ≤ length (now out) ⌝ }
     ensures { λ r. ⌜ Put (now (out .entry)) at (stoppedLine index number) r (now (out .exit)) × (r ≤ at + 33) ⌝ }
 {
-    let at_at = put_word(out, at, b"stopped ", index);
-    let behind = put_word(out, at_at, b" at ", number);
+    let number_at = put_word(out, at, b"stopped ", index);
+    let behind = put_word(out, number_at, b" at ", number);
     put_text(out, behind, b"\n")
 }
 

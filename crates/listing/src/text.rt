@@ -1,6 +1,5 @@
 // Texts and numbers put into bytes. Each function yields the index behind what it put.
 ghost use mathlib.Core.Path.{_≡_};
-ghost use mathlib.Core.List.{_++_};
 ghost use Prim.Native.Nat.{_+_, _<_, _≤_};
 ghost use lib.ListN.{length, drop};
 ghost use Rattle.listing.specs.Digits.{decimal, lastDigit};

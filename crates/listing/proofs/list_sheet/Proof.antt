@@ -4,10 +4,6 @@ use Rattle.listing.proofs.RunListing.{list-ready, list-done}
 use borrow.Author.Needs.{needs}
 use Rattle.listing.proofs.list_sheet.Statement.{statement}
 use Rattle.listing.proofs.list_sheet.Tie as tie
-use Rattle.listing.proofs.list_sheet.Reads as reads
-use Rattle.listing.proofs.list_sheet.Lts as lts
-use Rattle.listing.proofs.put_listing.Reads as put-listing-reads
-use Rattle.sheet.proofs.run.run.Reads as run-reads
 
 run-requires : tie.Need-run-requires
 run-requires c κs = search needs

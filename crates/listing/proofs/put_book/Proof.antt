@@ -6,11 +6,6 @@ use Rattle.listing.specs.Listing.{bookText}
 use borrow.Author.Needs.{needs}
 use Rattle.listing.proofs.put_book.Statement.{statement}
 use Rattle.listing.proofs.put_book.Tie as tie
-use Rattle.listing.proofs.put_book.Reads as reads
-use Rattle.listing.proofs.put_book.Lts as lts
-use Rattle.listing.proofs.put_first.Reads as put-first-reads
-use Rattle.listing.proofs.put_last.Reads as put-last-reads
-use Rattle.listing.proofs.put_pieces.Reads as put-pieces-reads
 
 cast-n : tie.Need-cast-n
 cast-n c = search needs

@@ -6,10 +6,6 @@ use Rattle.listing.specs.Listing.{firstLine}
 use borrow.Author.Needs.{needs}
 use Rattle.listing.proofs.put_first.Statement.{statement}
 use Rattle.listing.proofs.put_first.Tie as tie
-use Rattle.listing.proofs.put_first.Reads as reads
-use Rattle.listing.proofs.put_first.Lts as lts
-use Rattle.listing.proofs.text.put_text.Reads as put-text-reads
-use Rattle.listing.proofs.text.put_word.Reads as put-word-reads
 
 slice-aggregate-put-word : tie.Need-slice-aggregate-put-word
 slice-aggregate-put-word c = search needs

@@ -4,9 +4,6 @@ use Rattle.listing.proofs.LineLaws.{last-none, last-stopped}
 use borrow.Author.Needs.{needs}
 use Rattle.listing.proofs.put_last.Statement.{statement}
 use Rattle.listing.proofs.put_last.Tie as tie
-use Rattle.listing.proofs.put_last.Reads as reads
-use Rattle.listing.proofs.put_last.Lts as lts
-use Rattle.listing.proofs.put_stopped.Reads as put-stopped-reads
 
 returns : tie.Need-returns
 returns c = last-none _ _ _ _ (c .if1 .taken)

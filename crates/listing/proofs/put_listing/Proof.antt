@@ -4,10 +4,6 @@ use Rattle.listing.proofs.LineLaws.{listed-refused, listed-book}
 use borrow.Author.Needs.{needs}
 use Rattle.listing.proofs.put_listing.Statement.{statement}
 use Rattle.listing.proofs.put_listing.Tie as tie
-use Rattle.listing.proofs.put_listing.Reads as reads
-use Rattle.listing.proofs.put_listing.Lts as lts
-use Rattle.listing.proofs.put_book.Reads as put-book-reads
-use Rattle.listing.proofs.put_refused.Reads as put-refused-reads
 
 put-refused-requires : tie.Need-put-refused-requires
 put-refused-requires c κs = search needs

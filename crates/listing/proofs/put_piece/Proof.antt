@@ -6,11 +6,6 @@ use Rattle.listing.specs.Listing.{pieceLine}
 use borrow.Author.Needs.{needs}
 use Rattle.listing.proofs.put_piece.Statement.{statement}
 use Rattle.listing.proofs.put_piece.Tie as tie
-use Rattle.listing.proofs.put_piece.Reads as reads
-use Rattle.listing.proofs.put_piece.Lts as lts
-use Rattle.listing.proofs.text.put_number.Reads as put-number-reads
-use Rattle.listing.proofs.text.put_text.Reads as put-text-reads
-use Rattle.listing.proofs.text.put_word.Reads as put-word-reads
 
 put-number-requires : tie.Need-put-number-requires
 put-number-requires c κs = search needs

@@ -10,10 +10,6 @@ use Rattle.listing.specs.Listing.{pieceLines}
 use Rattle.listing.proofs.LineLaws.{linesLeft, bytes-turn, count-turn, lines-put}
 use Rattle.listing.proofs.put_pieces.Statement.{statement}
 use Rattle.listing.proofs.put_pieces.Tie as tie
-use Rattle.listing.proofs.put_pieces.Reads as reads
-use Rattle.listing.proofs.put_pieces.Lts as lts
-use Rattle.listing.proofs.put_piece.Reads as put-piece-reads
-use Rattle.table.proofs.piece_at.Reads as piece-at-reads
 
 abbrev Inv-loop : tie.InvT-loop
 Inv-loop out₀ at table n next₀ i₀ out next i = (i ≤ n) × (length out ≡ length out₀) × (next ≤ at + 44 * i) × (sets out next (linesLeft table n i) ≡ sets out₀ at (pieceLines (piecesOf n table))) × (next + length (linesLeft table n i) ≡ at + length (pieceLines (piecesOf n table)))
