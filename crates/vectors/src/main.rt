@@ -27,6 +27,39 @@ fn show(rule: u32, numbers: &[u32]) -> usize
     n
 }
 
+// Prints a number and a space behind it, and says how many numbers that were.
+fn show_number(n: u32) -> usize
+    ensures { λ r. ⌜ r ≡ 1 ⌝ }
+{
+    io::print_decimal(STDOUT_FILENO, n as u64);
+    io::write_all(STDOUT_FILENO, b" ");
+    1
+}
+
+// Prints numbers on a line, and says how many.
+fn show_numbers(numbers: &[u32]) -> usize
+    ensures { λ r. ⌜ r ≡ length (now (numbers .entry)) ⌝ }
+{
+    let mut i: usize = 0;
+    while i < numbers.len() {
+        i += show_number(numbers[i]);
+    }
+    io::write_all(STDOUT_FILENO, b"\n");
+    i
+}
+
+// Carries out a list of calls on a fresh book of three vessels, and prints the number of each and the room after. Demand 3 is in the
+// contract of `carry_out`.
+fn show_calls(calls: &[u32]) -> usize
+    ensures { λ r. ⌜ r ≡ 21 ⌝ }
+{
+    let mut table = [0u32; 64];
+    let mut answers = [99u32; 12];
+    let mut room = [99u32; 9];
+    book::journal::carry_out(2, 3, &mut table, calls, &mut answers, &mut room);
+    show_numbers(&answers) + show_numbers(&room)
+}
+
 fn main() {
     let six = [
         1u32,
@@ -107,4 +140,63 @@ fn main() {
     show(2, &[2u32, 1, 1, 4, 0, 1, 1, 1, 1, 2, 2, 3]); // rule 2: on a tie the earlier received
     show(3, &[0u32, 1, 1, 1, 2, 1, 1, 3, 1, 0, 1, 2]); // rule 3: on a tie the later received
     show(0, &[1u32, 0, 0, 3, 1, 0, 0, 2]); // pieces never merge
+    show_calls(
+        &[
+            0u32,
+            1,
+            2,
+            1,
+            3,
+            0,
+            2,
+            0,
+            3,
+            5,
+            0,
+            0,
+            1,
+            4,
+            3,
+            0,
+            1,
+            2,
+            5,
+            7,
+            0,
+            2,
+            1,
+            7,
+            2,
+            0,
+            2,
+            0,
+            8,
+            1,
+            0,
+            2,
+            2,
+            8,
+            1,
+            0,
+            2,
+            0,
+            7,
+            1,
+            2,
+            1,
+            9,
+            8,
+            0,
+            1,
+            3,
+            0,
+            0,
+            0,
+            3,
+            0,
+            0,
+            0,
+            0,
+        ],
+    ); // the six movements, two refused, a span back, a vessel that is none, and the whole report
 }

@@ -1,0 +1,60 @@
+-- `show_numbers` meets its contract. The invariant: at most all numbers are printed; the measure is how many are left.
+-- Assumes nothing.
+use borrow.Author.Needs.{needs}
+use Prim.Native.Nat.{_-_, _≤_}
+use lib.ListN.{length}
+use Rattle.vectors.proofs.show_numbers.Statement.{statement}
+use Rattle.vectors.proofs.show_numbers.Tie as tie
+
+abbrev Inv-loop : tie.InvT-loop
+Inv-loop numbers i₀ t3 i = i ≤ length numbers
+
+abbrev μ-loop : tie.MeasureT-loop
+μ-loop numbers i₀ t3 i = length numbers - i
+
+loop-holds : tie.Need-loop-holds Inv-loop μ-loop
+loop-holds c = search needs
+
+mul-show-number : tie.Need-mul-show-number Inv-loop μ-loop
+mul-show-number c = search needs
+
+shared-slice-read-show-number : tie.Need-shared-slice-read-show-number Inv-loop μ-loop
+shared-slice-read-show-number c = search needs
+
+show-number-requires : tie.Need-show-number-requires Inv-loop μ-loop
+show-number-requires c κs = search needs
+
+add-i : tie.Need-add-i Inv-loop μ-loop
+add-i c = search needs
+
+loop-less : tie.Need-loop-less Inv-loop μ-loop
+loop-less c = search needs
+
+loop-again : tie.Need-loop-again Inv-loop μ-loop
+loop-again c = search needs
+
+slice-aggregate-write-all : tie.Need-slice-aggregate-write-all Inv-loop μ-loop
+slice-aggregate-write-all c = search needs
+
+write-all-requires : tie.Need-write-all-requires Inv-loop μ-loop
+write-all-requires c κs = search needs
+
+returns : tie.Need-returns Inv-loop μ-loop
+returns c = search needs
+
+pub show-numbers-spec : {M : Type 1} → statement M
+show-numbers-spec =
+    tie.close
+    (tie.spec
+    Inv-loop
+    μ-loop
+    loop-holds
+    mul-show-number
+    shared-slice-read-show-number
+    show-number-requires
+    add-i
+    loop-less
+    loop-again
+    slice-aggregate-write-all
+    write-all-requires
+    returns)
