@@ -1,4 +1,4 @@
--- "Answers": what a transfer answers, and the table that it leaves. It is full where "the pieces afterwards would exceed the places".
+-- What moving the pieces answers, and the table that it leaves. The table is full where the pieces afterwards would exceed the places.
 -- Definitions only. Assumes nothing.
 use mathlib.Core.Path.{_≡_}
 use mathlib.Core.Bool.{Bool, true, false, cond}
