@@ -7,7 +7,7 @@ use native.Mathlib.Omega.{arith}
 use borrow.Author.Tests.{leb-false, ltb-false, eqb-false}
 use Rattle.refusal.specs.Numbers.{TOP, first}
 use Rattle.refusal.proofs.Numbers.{passed}
-use Rattle.transfer.specs.Transfer.{Transfer}
+use Rattle.picking.specs.Transfer.{Transfer}
 use Rattle.book.specs.Calls.{transferChecks}
 
 pub record Fit (size balance last accepted : ℕ) (x : Transfer) : Type 0 where

@@ -12,7 +12,7 @@ use Rattle.table.specs.Pieces.{held, All}
 use Rattle.table.specs.Table.{piecesOf, placesOf}
 use Rattle.table.proofs.Pieces.{all-map}
 use Rattle.table.proofs.Table.{length-pieces}
-use Rattle.transfer.specs.Transfer.{Transfer}
+use Rattle.picking.specs.Transfer.{Transfer}
 use Rattle.refusal.specs.Numbers.{first}
 use Rattle.book.specs.declared.Head.{Head}
 use Rattle.book.specs.Head.{balancesOf, bookOf, bookTests, addsUp, Sized}

@@ -4,11 +4,6 @@ pub mod Step
 pub mod Memory
 pub mod Drained
 pub mod Known
-pub mod Next
-pub mod Scattered
-pub mod Filling
-pub mod Asked
 pub mod After
 pub mod Lists
-pub mod Carrying
 pub mod Marked

@@ -7,8 +7,8 @@ use Prim.Native.Nat.{ℕ, _+_, _-_}
 use lib.ListN.{take, replicate}
 use Rattle.table.specs.Pieces.{held}
 use Rattle.table.specs.Table.{piecesOf, flat, placesOf}
-use Rattle.transfer.specs.Selection.{precedes}
-use Rattle.transfer.specs.Transfer.{Transfer, takeUpTo, taken}
+use Rattle.picking.specs.Selection.{precedes}
+use Rattle.picking.specs.Transfer.{Transfer, takeUpTo, taken}
 use Rattle.book.specs.Head.{Book, tab, balancesOf, allFit, same, addsUp, opening}
 use Rattle.book.specs.Calls.{transferChecks, takes, move, says, evenOf}
 use Rattle.book.specs.Memory.{bookChecks, numberOf, callOn}

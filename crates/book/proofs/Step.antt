@@ -12,9 +12,9 @@ use lib.ListN.{length}
 use borrow.Author.Tests.{ltb-false, le-ltb, eqb-true, ne-eqb}
 use Rattle.table.specs.declared.Piece.{Piece}
 use Rattle.table.specs.Pieces.{only, sum, bornAt, held, All}
-use Rattle.transfer.specs.Transfer.{Transfer}
-use Rattle.transfer.proofs.Taking.{Law, taken-law}
-use Rattle.transfer.proofs.Handed.{handed-length, handed-births, handed-held, handed-all}
+use Rattle.picking.specs.Transfer.{Transfer}
+use Rattle.picking.proofs.Taking.{Law, taken-law}
+use Rattle.picking.proofs.Handed.{handed-length, handed-births, handed-held, handed-all}
 use Rattle.refusal.specs.Numbers.{TOP, _if_, orElse, first, ifZero}
 use Rattle.refusal.proofs.Numbers.{first-append}
 use Rattle.book.specs.Head.{Book}

@@ -6,7 +6,7 @@ use lib.Dec.{leb, ltb, eqb}
 use lib.ListN.{length}
 use Rattle.table.specs.declared.Piece.{Piece}
 use Rattle.table.specs.Pieces.{held}
-use Rattle.transfer.specs.Transfer.{Transfer, Taken, taken, handed}
+use Rattle.picking.specs.Transfer.{Transfer, Taken, taken, handed}
 use Rattle.refusal.specs.Numbers.{TOP, Check, _if_, ifZero}
 use Rattle.book.specs.Head.{Book}
 use Rattle.book.specs.Reports.{Report, reportRow, reportChecks, over}

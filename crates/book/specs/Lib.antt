@@ -1,10 +1,7 @@
 pub mod Head
 pub mod Audit
 pub mod Reports
-pub mod Scatter
 pub mod Calls
 pub mod Memory
-pub mod NextHead
 pub mod WeighBook
 pub mod Lists
-pub mod Carried

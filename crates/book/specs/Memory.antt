@@ -9,7 +9,7 @@ use Prim.Native.Nat.{ℕ, zero, suc, _*_, _≤_}
 use lib.Dec.{ltb}
 use lib.ListN.{length}
 use Rattle.table.specs.Table.{lay, placesOf}
-use Rattle.transfer.specs.Transfer.{Transfer}
+use Rattle.picking.specs.Transfer.{Transfer}
 use Rattle.refusal.specs.Numbers.{Check, _if_, first}
 use Rattle.book.specs.declared.Head.{Head}
 use Rattle.book.specs.declared.Transferred.{Transferred}

@@ -1,9 +1,6 @@
 // The book: a head by value, and a table of pieces that the caller lends. No call keeps anything between two calls.
 pub mod audit;
-pub mod journal;
 pub mod opening;
-pub mod reports;
-pub mod transfers;
 
 // The head of a book.
 #[repr(C)]

@@ -13,7 +13,7 @@ use Rattle.table.specs.Pieces.{noPiece}
 use Rattle.table.specs.Table.{piecesOf, pieceIn}
 use Rattle.table.proofs.Table.{length-pieces}
 use Rattle.sheet.proofs.PutLaws.{put-then}
-use Rattle.sheet.specs.declared.answer.Ran.{Ran}
+use Rattle.run.specs.declared.Ran.{Ran}
 use Rattle.sheet.proofs.CheckLaws.{not-zero}
 use Rattle.listing.specs.Listing.{Put, Listed, pieceLine, pieceLines, stoppedLine, lastLine, refusedLine, bookText, listingText, roomFor}
 

@@ -12,10 +12,10 @@ use Rattle.table.specs.Table.{piecesOf, placesOf}
 use Rattle.table.proofs.Table.{places-fit}
 use Rattle.book.specs.Head.{emptyHead, bookTests, addsUp}
 use Rattle.book.proofs.Memory.{Hold, hold}
-use Rattle.sheet.specs.declared.answer.Ran.{Ran}
-use Rattle.sheet.specs.Run.{Running, ended, runNumber, running}
+use Rattle.run.specs.declared.Ran.{Ran}
+use Rattle.run.specs.Run.{Running, ended, runNumber, running}
 use Rattle.sheet.proofs.CheckLaws.{not-zero}
-use Rattle.sheet.proofs.RunTheorem.{run-theorem}
+use Rattle.run.proofs.RunTheorem.{run-theorem}
 use Rattle.listing.specs.Listing.{Listed, listingText, bookText, refusedLine, listingOf, sheetListing, roomFor, listingRoom}
 
 few-places : (t : List ℕ) → placesOf t ≤ 4096

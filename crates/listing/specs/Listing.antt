@@ -10,8 +10,8 @@ use Rattle.refusal.specs.Numbers.{ifZero}
 use Rattle.table.specs.declared.Piece.{Piece}
 use Rattle.table.specs.Table.{piecesOf}
 use Rattle.book.specs.declared.Head.{Head}
-use Rattle.sheet.specs.declared.answer.Ran.{Ran}
-use Rattle.sheet.specs.Run.{running}
+use Rattle.run.specs.declared.Ran.{Ran}
+use Rattle.run.specs.Run.{running}
 use Rattle.listing.specs.Digits.{decimal}
 use Rattle.listing.specs.Words.{vesselsWord, ruleWord, acceptedWord, piecesWord, evenWord, stoppedWord, atWord, refusedWord, space, newline}
 

@@ -3,10 +3,10 @@ ghost use mathlib.Core.Path.{_≡_};
 ghost use Prim.Native.Nat.{_+_, _*_, _≤_};
 ghost use lib.ListN.{length};
 ghost use Rattle.table.specs.Table.{piecesOf};
-ghost use Rattle.sheet.specs.Run.{running};
+ghost use Rattle.run.specs.Run.{running};
 ghost use Rattle.listing.specs.Listing.{Put, Listed, firstLine, pieceLine, pieceLines, stoppedLine, refusedLine, lastLine, bookText, listingOf, sheetListing, roomFor, listingRoom};
 use book::Head;
-use sheet::answer::Ran;
+use run::Ran;
 use table::Piece;
 use text::put_number;
 use text::put_text;
@@ -116,6 +116,6 @@ pub fn list_sheet(sheet: &[u8], table: &mut [u32], out: &mut [u8]) -> usize
     requires { ⌜ listingRoom ≤ length (now out) ⌝ }
     ensures { λ r. ⌜ Listed (now (out .entry)) (sheetListing (now (sheet .entry)) (now (table .entry))) r (now (out .exit)) × (now (table .exit) ≡ (running (now (sheet .entry)) (now (table .entry))) .table) ⌝ }
 {
-    let ran = sheet::run::run(sheet, table);
+    let ran = run::run(sheet, table);
     put_listing(ran, table, out)
 }

@@ -8,13 +8,13 @@ ghost use Rattle.book.specs.Calls.{move, ask};
 ghost use Rattle.book.specs.Memory.{transferOf, transferred, reported, callOn};
 ghost use Rattle.sheet.specs.Answers.{reading, movementAsked, nameNumber, nameAsked};
 ghost use Rattle.sheet.specs.Writing.{writeNumber, written};
-ghost use Rattle.sheet.specs.Run.{running};
+ghost use Rattle.run.specs.Run.{running};
 use book::Head;
 use book::Opened;
 use book::Reported;
 use book::Transferred;
+use run::Ran;
 use sheet::answer::Movement;
-use sheet::answer::Ran;
 use sheet::answer::Reading;
 
 #[no_mangle]
@@ -36,7 +36,7 @@ pub extern "C" fn lumchaki_transfer(
     ensures { λ r. ⌜ (r ≡ transferred (callOn head (now (table .entry)) (move (transferOf source destination minute weight))))
         × (now (table .exit) ≡ (callOn head (now (table .entry)) (move (transferOf source destination minute weight))) .table) ⌝ }
 {
-    book::transfers::transfer(head, table, source, destination, minute, weight)
+    posting::transfer(head, table, source, destination, minute, weight)
 }
 
 #[no_mangle]
@@ -49,7 +49,7 @@ pub extern "C" fn lumchaki_held(
     ensures { λ r. ⌜ (r ≡ reported (callOn head (now (table .entry)) (ask (heldBy vessel) (now (report .entry)))))
         × (now (report .exit) ≡ (callOn head (now (table .entry)) (ask (heldBy vessel) (now (report .entry)))) .room) ⌝ }
 {
-    book::reports::held(head, table, vessel, report)
+    reports::held(head, table, vessel, report)
 }
 
 #[no_mangle]
@@ -64,7 +64,7 @@ pub extern "C" fn lumchaki_spread(
     ensures { λ r. ⌜ (r ≡ reported (callOn head (now (table .entry)) (ask (spread origin from to) (now (report .entry)))))
         × (now (report .exit) ≡ (callOn head (now (table .entry)) (ask (spread origin from to) (now (report .entry)))) .room) ⌝ }
 {
-    book::reports::spread(head, table, origin, from, to, report)
+    reports::spread(head, table, origin, from, to, report)
 }
 
 #[no_mangle]
@@ -72,7 +72,7 @@ pub extern "C" fn lumchaki_whole(head: Head, table: &[u32], report: &mut [u32]) 
     ensures { λ r. ⌜ (r ≡ reported (callOn head (now (table .entry)) (ask whole (now (report .entry)))))
         × (now (report .exit) ≡ (callOn head (now (table .entry)) (ask whole (now (report .entry)))) .room) ⌝ }
 {
-    book::reports::whole(head, table, report)
+    reports::whole(head, table, report)
 }
 
 #[no_mangle]
@@ -123,5 +123,5 @@ pub extern "C" fn lumchaki_write(
 pub extern "C" fn lumchaki_run(sheet: &[u8], table: &mut [u32]) -> Ran
     ensures { λ r. ⌜ (r ≡ (running (now (sheet .entry)) (now (table .entry))) .answer) × (now (table .exit) ≡ (running (now (sheet .entry)) (now (table .entry))) .table) ⌝ }
 {
-    sheet::run::run(sheet, table)
+    run::run(sheet, table)
 }

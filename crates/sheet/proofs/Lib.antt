@@ -15,5 +15,3 @@ pub mod WrittenReads
 pub mod ReadRewrites
 pub mod RoundTrip
 pub mod Samples
-pub mod RunLaws
-pub mod RunTheorem

@@ -4,4 +4,3 @@ pub mod Movements
 pub mod Sheet
 pub mod Answers
 pub mod Writing
-pub mod Run

@@ -1,5 +1,3 @@
-use book::Head;
-
 // What reading a sheet yields.
 #[repr(C)]
 pub struct Reading {
@@ -17,14 +15,4 @@ pub struct Movement {
     pub destination: u32,
     pub minute: u32,
     pub weight: u32,
-}
-
-// What a run yields: the number of the movement that stopped it or 0, that movement's index or the count of all, the even count, and
-// the head after the last accepted movement.
-#[repr(C)]
-pub struct Ran {
-    pub number: u32,
-    pub index: u32,
-    pub even: u32,
-    pub head: Head,
 }

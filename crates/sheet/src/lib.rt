@@ -24,7 +24,6 @@ mod header; // header.rt: the header, and what it must be
 mod limits; // limits.rt: the sizes and limits of a sheet
 mod names; // names.rt: the names of the vessels, and what a name must be
 mod reader; // reader.rt: all checks of a sheet, in order
-pub mod run; // run.rt: a run of a sheet's movements on a fresh book
 mod writer; // writer.rt: the checks of what is to be written, and its bytes
 
 // The numbers of a header.

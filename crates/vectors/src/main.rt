@@ -56,7 +56,7 @@ fn show_calls(calls: &[u32]) -> usize
     let mut table = [0u32; 64];
     let mut answers = [99u32; 12];
     let mut room = [99u32; 9];
-    book::journal::carry_out(2, 3, &mut table, calls, &mut answers, &mut room);
+    journal::carry_out(2, 3, &mut table, calls, &mut answers, &mut room);
     show_numbers(&answers) + show_numbers(&room)
 }
 

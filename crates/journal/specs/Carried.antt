@@ -1,0 +1,75 @@
+-- A list of calls in numbers, carried out on a fresh book: demand 3 of running code. Five numbers are a call: its kind and its arguments.
+-- Kind 0 is a transfer (source, destination, minute, weight), 1 the held report (vessel), 2 spread (origin, from, to), any other the whole report.
+-- Definitions only. Assumes nothing.
+use mathlib.Core.Path.{_≡_}
+use mathlib.Core.Bool.{cond}
+use mathlib.Core.List.{List, [], _∷_, _++_}
+use Prim.Native.Nat.{ℕ, zero, suc, _/_, min}
+use lib.Dec.{eqb}
+use lib.ListN.{length, getD, drop}
+use Rattle.book.specs.declared.Head.{Head}
+use Rattle.book.specs.declared.Opened.{Opened}
+use Rattle.book.specs.Head.{opening}
+use Rattle.book.specs.Reports.{heldBy, spread, whole}
+use Rattle.book.specs.Calls.{Call, move, ask}
+use Rattle.book.specs.Memory.{Outcome, callOn, transferOf}
+use Rattle.book.specs.Lists.{callsOn, Demand3}
+
+abbrev pub callSize : ℕ
+callSize = 5
+
+-- the call in the first five numbers, lent this room
+unfoldable pub callIn : List ℕ → List ℕ → Call
+callIn l room =
+    cond (eqb (getD l 0 0) 0) (move (transferOf (getD l 1 0) (getD l 2 0) (getD l 3 0) (getD l 4 0)))
+    (cond (eqb (getD l 0 0) 1) (ask (heldBy (getD l 1 0)) room)
+    (cond (eqb (getD l 0 0) 2) (ask (spread (getD l 1 0) (getD l 2 0) (getD l 3 0)) room) (ask whole room)))
+
+-- the room after a call: a transfer has none to write to
+abbrev pub roomLeft : Call → Outcome → List ℕ → List ℕ
+roomLeft (move x) o room = room
+roomLeft (ask q r) o room = o .room
+
+-- What is left after n calls, and the number of each.
+pub record Carried : Type 0 where
+  pub numbers : List ℕ
+  pub head : Head
+  pub table : List ℕ
+  pub room : List ℕ
+
+abbrev pub numbered : ℕ → Carried → Carried
+numbered n r = record { numbers = n ∷ r .numbers; head = r .head; table = r .table; room = r .room }
+
+unfoldable pub carried : ℕ → List ℕ → Head → List ℕ → List ℕ → Carried
+carried zero l h t room = record { numbers = []; head = h; table = t; room = room }
+carried (suc n) l h t room =
+    let c = callIn l room in
+    let o = callOn h t c in
+    numbered (o .number) (carried n (drop callSize l) (o .head) (o .table) (roomLeft c o room))
+
+-- the calls themselves, each with the room as it is lent then
+unfoldable pub callsIn : ℕ → List ℕ → Head → List ℕ → List ℕ → List Call
+callsIn zero l h t room = []
+callsIn (suc n) l h t room =
+    let c = callIn l room in
+    let o = callOn h t c in
+    c ∷ callsIn n (drop callSize l) (o .head) (o .table) (roomLeft c o room)
+
+-- how many calls there are numbers and answers for
+abbrev pub countCalls : List ℕ → List ℕ → ℕ
+countCalls calls answers = min (length calls / callSize) (length answers)
+
+-- What carrying out a list of calls promises: with the rule and V that were given, the numbers of the calls, the four lent slices before, and the
+-- answer and the slices after.
+pub record CarriesOut (rule size : ℕ) (calls t answers room : List ℕ) (r : Opened) (t′ answers′ room′ : List ℕ) : Type 0 where
+  -- a refused opening leaves all as it was
+  pub refused : ((opening rule size) .number ≡ 0 → ⊥) → (r ≡ opening rule size) × (t′ ≡ t) × (answers′ ≡ answers) × (room′ ≡ room)
+  -- an accepted one is followed by the calls
+  pub done : (opening rule size) .number ≡ 0
+      → let k = carried (countCalls calls answers) calls ((opening rule size) .head) t room in
+      (r ≡ record { number = 0; head = k .head }) × (t′ ≡ k .table) × (answers′ ≡ k .numbers ++ drop (countCalls calls answers) answers) × (room′ ≡ k .room)
+  -- and demand 3 holds of what was left
+  pub demand : (opening rule size) .number ≡ 0
+      → let cs = callsIn (countCalls calls answers) calls ((opening rule size) .head) t room in
+      let j = callsOn ((opening rule size) .head) t cs in
+      (r .head ≡ j .head) × (t′ ≡ j .table) × Demand3 rule size t cs j

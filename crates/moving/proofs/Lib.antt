@@ -1,0 +1,5 @@
+pub mod Lifting
+pub mod Remainder
+pub mod Closing
+pub mod Applying
+pub mod Moving

@@ -1,0 +1,18 @@
+-- `apply::stays` meets its contract: the two returns are the two cases of the definition.
+-- Assumes nothing.
+use borrow.Author.Needs.{needs}
+use Rattle.table.proofs.Tests.{tests}
+use Rattle.moving.proofs.apply.stays.Statement.{statement}
+use Rattle.moving.proofs.apply.stays.Tie as tie
+
+returns : tie.Need-returns
+returns c = search tests
+
+add-result : tie.Need-add-result
+add-result c = search needs
+
+returns-2 : tie.Need-returns-2
+returns-2 c = search tests
+
+pub stays-spec : {M : Type 1} → statement M
+stays-spec = tie.close (tie.spec returns add-result returns-2)

@@ -1,0 +1,9 @@
+pub mod Taking
+pub mod Handed
+pub mod Rules
+pub mod InTable
+pub mod Marks
+pub mod Picks
+pub mod Planned
+pub mod Keys
+pub mod Walk

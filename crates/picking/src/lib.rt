@@ -1,0 +1,3 @@
+// Which pieces a transfer takes.
+pub mod plan;
+pub mod selection;

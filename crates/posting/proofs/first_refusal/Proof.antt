@@ -1,0 +1,79 @@
+-- `transfers::first_refusal` meets its contract: the tests that led to each `return` pick the first check that applies.
+-- Assumes nothing.
+use mir.Syntax.{w32}
+use mir.Val.{Fits}
+use native.Mathlib.Omega.{arith}
+use lib.ListN.{getD}
+use Rattle.table.proofs.Tests.{tests}
+use Rattle.book.specs.Calls.{transferChecks}
+use borrow.Author.Needs.{needs}
+use Rattle.posting.proofs.first_refusal.Statement.{statement}
+use Rattle.posting.proofs.first_refusal.Tie as tie
+
+returns : tie.Need-returns
+unfolding transferChecks
+returns c = search tests
+
+returns-2 : tie.Need-returns-2
+unfolding transferChecks
+returns-2 c = search tests
+
+returns-3 : tie.Need-returns-3
+unfolding transferChecks
+returns-3 c = search tests
+
+returns-4 : tie.Need-returns-4
+unfolding transferChecks
+returns-4 c = search tests
+
+returns-5 : tie.Need-returns-5
+unfolding transferChecks
+returns-5 c = search tests
+
+mul-balance : tie.Need-mul-balance
+mul-balance c = search needs
+
+element-copy-out-balance : tie.Need-element-copy-out-balance
+element-copy-out-balance c = search needs
+
+cast-if6 : tie.Need-cast-if6
+cast-if6 c = search needs
+
+cast-if6-2 : tie.Need-cast-if6-2
+cast-if6-2 c = search needs
+
+add-if6 : tie.Need-add-if6
+add-if6 c =
+    let a = c .before .before .before .before .before .before .args in
+    let g : Fits w32 (getD (a .t1 .balances) (a .destination) 0) = search needs in
+    record { fits = omega (arith, g .fits) }
+
+returns-6 : tie.Need-returns-6
+unfolding transferChecks
+returns-6 c = search tests
+
+returns-7 : tie.Need-returns-7
+unfolding transferChecks
+returns-7 c = search tests
+
+returns-8 : tie.Need-returns-8
+unfolding transferChecks
+returns-8 c = search tests
+
+pub first-refusal-spec : {M : Type 1} → statement M
+first-refusal-spec =
+    tie.close
+    (tie.spec
+    returns
+    returns-2
+    returns-3
+    returns-4
+    returns-5
+    mul-balance
+    element-copy-out-balance
+    cast-if6
+    cast-if6-2
+    add-if6
+    returns-6
+    returns-7
+    returns-8)

@@ -1,0 +1,3 @@
+pub mod Scattered
+pub mod Filling
+pub mod Asked

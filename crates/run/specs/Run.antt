@@ -1,0 +1,59 @@
+-- A run: "A run reads the sheet, checks 1, opens a book and transfers until one is refused; its answer has that number, the movement's
+-- index from 0 (M if all passed), and the even count. It stops with the head and table after the last accepted one."
+-- Definitions only. Assumes nothing.
+use mathlib.Core.List.{List, [], _∷_}
+use Prim.Native.Nat.{ℕ, zero, suc, _+_, _*_}
+use lib.Dec.{ltb}
+use lib.ListN.{length, drop}
+use Rattle.refusal.specs.Numbers.{_if_, first, ifZero}
+use Rattle.picking.specs.Transfer.{Transfer}
+use Rattle.book.specs.declared.Head.{Head}
+use Rattle.book.specs.Head.{emptyHead}
+use Rattle.book.specs.Calls.{move, evenOf}
+use Rattle.book.specs.Memory.{Outcome, callOn}
+use Rattle.run.specs.declared.Ran.{Ran}
+use Rattle.sheet.specs.declared.entries.Entry.{Entry}
+use Rattle.sheet.specs.Bytes.{groups}
+use Rattle.sheet.specs.Movements.{entrySize, entryIn}
+use Rattle.sheet.specs.Sheet.{ruleOf, vesselsOf, movementsOf, entriesStart, readNumber}
+
+-- the transfer that a movement of the sheet is
+abbrev pub toTransfer : Entry → Transfer
+toTransfer e = record { source = e .source; destination = e .destination; minute = e .minute; weight = e .weight }
+
+abbrev pub transferIn : List ℕ → Transfer
+transferIn l = toTransfer (entryIn l)
+
+-- the transfers of a sheet, in turn
+abbrev pub transfersOf : List ℕ → List Transfer
+transfersOf s = groups entrySize transferIn (movementsOf s) (drop (entriesStart (vesselsOf s)) s)
+
+-- the transfer at an index of a sheet that reads well
+abbrev pub transferAt : List ℕ → ℕ → Transfer
+transferAt s i = transferIn (drop (entriesStart (vesselsOf s) + entrySize * i) s)
+
+-- What a run gives back, and the table that it leaves.
+pub record Running : Type 0 where
+  pub answer : Ran
+  pub table : List ℕ
+
+abbrev pub ended : ℕ → ℕ → ℕ → Head → List ℕ → Running
+ended n i even h t = record { answer = record { number = n; index = i; even = even; head = h }; table = t }
+
+-- The transfers from index i on; so many before it were even. The first refused one ends the run.
+abbrev pub goOn : (ℕ → Head → List ℕ → Running) → ℕ → ℕ → Head → List ℕ → Transfer → Outcome → ℕ → Running
+goOn more i even h t x o zero = more (even + evenOf (move x) (o .answer)) (o .head) (o .table)
+goOn more i even h t x o (suc n) = ended (suc n) i even h t
+
+unfoldable pub runFrom : ℕ → ℕ → Head → List ℕ → List Transfer → Running
+runFrom i even h t [] = ended 0 i even h t
+runFrom i even h t (x ∷ xs) =
+    goOn (λ even′ h′ t′. runFrom (suc i) even′ h′ t′ xs) i even h t x (callOn h t (move x)) ((callOn h t (move x)) .number)
+
+-- The number of a run that is refused by its sheet or by 1: "a head of zeros".
+unfoldable pub runNumber : List ℕ → List ℕ → ℕ
+runNumber s t = ifZero (readNumber s) (first (1 if ltb (length t) 4 ∷ [])) (readNumber s)
+
+unfoldable pub running : List ℕ → List ℕ → Running
+running s t =
+    ifZero (runNumber s t) (runFrom 0 0 (emptyHead (ruleOf s) (vesselsOf s)) t (transfersOf s)) (ended (runNumber s t) 0 0 (emptyHead 0 0) t)

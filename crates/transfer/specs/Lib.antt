@@ -1,6 +1,0 @@
-pub mod Selection
-pub mod Transfer
-pub mod InTable
-pub mod Plan
-pub mod Applied
-pub mod Parts
