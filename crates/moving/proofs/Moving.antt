@@ -17,7 +17,8 @@ use Rattle.table.proofs.Table.{length-pieces}
 use Rattle.picking.specs.declared.selection.Order.{Order}
 use Rattle.picking.specs.declared.plan.Plan.{Plan}
 use Rattle.moving.specs.declared.Applied.{Applied}
-use Rattle.picking.specs.Transfer.{Transfer, Taken, handed, taken}
+use Rattle.picking.specs.declared.Move.{Move}
+use Rattle.picking.specs.Taking.{Taken, handed, taken}
 use Rattle.picking.specs.Plan.{atKey, inOrder, halt, planFrom, splits, lacking, outcome, planned}
 use Rattle.moving.specs.Applied.{full, refused, accepted, applied, leaves, Ready, Moves}
 use Rattle.picking.specs.Ordering.{Ordered}
@@ -59,7 +60,7 @@ length-map : (f : Piece → Piece) (ps : List Piece) → length (map f ps) ≡ l
 length-map f [] = refl
 length-map f (p ∷ ps) = ap suc (length-map f ps)
 
-module _ (n places rule : ℕ) (x : Transfer) (keys₀ spare t l : List ℕ) (ready : Ready n places (x .source) t keys₀ spare l)
+module _ (n places rule : ℕ) (x : Move) (keys₀ spare t l : List ℕ) (ready : Ready n places (x .source) t keys₀ spare l)
     (o : Order) (keys : List ℕ) (ordered : Ordered n rule (x .source) o t keys)
     (r : Plan) (plan : r ≡ planFrom 0 (inOrder o keys) (x .weight) (piecesOf n t)) where
   abbrev ps : List Piece
@@ -109,7 +110,7 @@ module _ (n places rule : ℕ) (x : Transfer) (keys₀ spare t l : List ℕ) (re
       free : full places x taking ≡ false
       free = due ∙ sym is ∙ e
 
-      pub move-ready : Room n (r .whole) o keys t l × Applicable n (x .source) (x .destination) (x .minute) o r keys t
+      pub move-ready : Room n (r .whole) o keys t l × Applicable n (x .source) (x .destination) (x .birth) o r keys t
       move-ready =
           let h : length (handed x taking) ≤ places = ltb-false _ _ free in
           let f : 4 * length (handed x taking) ≤ length t = omega (arith, ready .room) in (
@@ -124,7 +125,7 @@ module _ (n places rule : ℕ) (x : Transfer) (keys₀ spare t l : List ℕ) (re
             record { rest = rw by-plan at rest; fits = rw by-plan at f },
           )
 
-      pub move-applied : (t′ : List ℕ) (a : Applied) → Applies n (x .source) (x .destination) (x .minute) o r keys t t′ a
+      pub move-applied : (t′ : List ℕ) (a : Applied) → Applies n (x .source) (x .destination) (x .birth) o r keys t t′ a
           → Moves n places rule x t t′ a
       unfolding applied leaves
       move-applied t′ a done =

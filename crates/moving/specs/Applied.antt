@@ -8,19 +8,20 @@ use lib.Dec.{ltb}
 use lib.ListN.{length}
 use Rattle.table.specs.Pieces.{All}
 use Rattle.table.specs.Table.{piecesOf, lay}
-use Rattle.picking.specs.Transfer.{Transfer, Taken, handed, taken}
+use Rattle.picking.specs.declared.Move.{Move}
+use Rattle.picking.specs.Taking.{Taken, handed, taken}
 use Rattle.picking.specs.Plan.{MARK}
 use Rattle.picking.specs.declared.selection.Order.{Order}
 use Rattle.picking.specs.declared.plan.Plan.{Plan}
 use Rattle.moving.specs.declared.Applied.{Applied}
 
-abbrev pub full : ℕ → Transfer → Taken → Bool
+abbrev pub full : ℕ → Move → Taken → Bool
 full places x r = ltb places (length (handed x r))
 
 abbrev pub refused : ℕ → Applied
 refused n = record { full = true; whole = 0; split = 0; born = 0; count = n }
 
-abbrev pub accepted : Transfer → Taken → Applied
+abbrev pub accepted : Move → Taken → Applied
 accepted x r = record { full = false; whole = r .whole; split = r .split; born = r .born; count = length (handed x r) }
 
 -- the answer where the plan r of the order o was applied and leaves so many pieces
@@ -34,11 +35,11 @@ says o r count = record {
 }
 
 -- the answer, where n pieces were there and r is taken
-unfoldable pub applied : ℕ → ℕ → Transfer → Taken → Applied
+unfoldable pub applied : ℕ → ℕ → Move → Taken → Applied
 applied places n x r = cond (full places x r) (refused n) (accepted x r)
 
 -- the table that is left of t
-unfoldable pub leaves : ℕ → Transfer → Taken → List ℕ → List ℕ
+unfoldable pub leaves : ℕ → Move → Taken → List ℕ → List ℕ
 leaves places x r t = cond (full places x r) t (lay (handed x r) t)
 
 -- What `move_pieces` asks: n pieces lie in the table t, which has so many places; there is memory for keys, to sort them, and for
@@ -54,6 +55,6 @@ pub record Ready (n places source : ℕ) (t keys spare lifted : List ℕ) : Type
   pub unmarked : All (λ p. p .holder < MARK) (piecesOf n t)
 
 -- What it promises, of its answer and of the table after.
-pub record Moves (n places rule : ℕ) (x : Transfer) (t t′ : List ℕ) (r : Applied) : Type 0 where
+pub record Moves (n places rule : ℕ) (x : Move) (t t′ : List ℕ) (r : Applied) : Type 0 where
   pub answer : r ≡ applied places n x (taken rule x (piecesOf n t))
   pub table : t′ ≡ leaves places x (taken rule x (piecesOf n t)) t

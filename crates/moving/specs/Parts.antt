@@ -8,7 +8,7 @@ use lib.ListN.{length, take, drop}
 use Rattle.table.specs.declared.Piece.{Piece}
 use Rattle.table.specs.Pieces.{handTo, ifAny}
 use Rattle.table.specs.Table.{piecesOf, lay, over}
-use Rattle.picking.specs.Transfer.{Taken, handed}
+use Rattle.picking.specs.Taking.{Taken, handed}
 use Rattle.picking.specs.Plan.{byBirth, backwards, orderOf, inOrder, stay, marked, picked, reduced, part, lacking, outcome}
 use Rattle.moving.specs.Applied.{says}
 use Rattle.moving.specs.declared.Applied.{Applied}
@@ -26,7 +26,7 @@ pub record Room (n whole : ℕ) (o : Order) (keys t l : List ℕ) : Type 0 where
 
 -- the pieces after what was taken is handed over; how much was wanted plays no part
 abbrev pub handedOver : ℕ → ℕ → ℕ → Taken → List Piece
-handedOver s d u r = handed (record { source = s; destination = d; minute = u; weight = 0 }) r
+handedOver s d u r = handed (record { source = s; destination = d; birth = u; weight = 0 }) r
 
 -- The first pieces of the order are lifted: marked in the table, and copied with holder d.
 pub record Lifts (n whole d : ℕ) (o : Order) (keys t t′ l′ : List ℕ) : Type 0 where

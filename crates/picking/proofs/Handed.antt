@@ -10,7 +10,8 @@ use lib.ListN.{length, length-append, length-map}
 use Rattle.table.specs.declared.Piece.{Piece}
 use Rattle.table.specs.Pieces.{handTo, only, sum, inVessel, bornAt, held, weightOf, All, done, also}
 use Rattle.table.proofs.Pieces.{total-append, only-add, only-zero, sum-ifAny, length-ifAny, all-append, all-map, all-ifAny}
-use Rattle.picking.specs.Transfer.{Transfer, Taken, newborn, handed}
+use Rattle.picking.specs.declared.Move.{Move}
+use Rattle.picking.specs.Taking.{Taken, newborn, handed}
 use Rattle.picking.proofs.Taking.{Reweigh, Fair}
 
 held-handed : (v d : ℕ) (ps : List Piece) → held v (map (handTo d) ps) ≡ only (eqb d v) (weightOf ps)
@@ -34,12 +35,12 @@ all-trivial : (ps : List Piece) → All (λ p. Unit {0}) ps
 all-trivial [] = done
 all-trivial (p ∷ ps) = also tt (all-trivial ps)
 
-module _ (x : Transfer) (ps : List Piece) (r : Taken) (l : Fair (x .source) (x .weight) ps r) where
+module _ (x : Move) (ps : List Piece) (r : Taken) (l : Fair (x .source) (x .weight) ps r) where
   pub handed-length : length (handed x r) ≡ length ps + (r .split + min 1 (r .born))
   handed-length = simp (length-append, length-map, length-ifAny) (omega (arith, l .longer))
 
   pub handed-births : (o t : ℕ) → sum (bornAt o t) (handed x r)
-      ≡ sum (bornAt o t) ps + only (eqb (x .source) o && eqb (x .minute) t) (x .weight - held (x .source) ps)
+      ≡ sum (bornAt o t) ps + only (eqb (x .source) o && eqb (x .birth) t) (x .weight - held (x .source) ps)
   handed-births o t = simp (total-append, sum-ifAny, births-handed, ← (l .born-is)) (omega (arith, l .parts (bornAt o t)))
 
   pub handed-held : (v : ℕ) → held v (handed x r)

@@ -13,7 +13,8 @@ use Rattle.table.specs.declared.Piece.{Piece}
 use Rattle.table.specs.Pieces.{handTo, All, done, also}
 use Rattle.table.proofs.Pieces.{all-append}
 use Rattle.picking.specs.Selection.{Found, nothing, at, wins, behind, against, select}
-use Rattle.picking.specs.Transfer.{Transfer, Taken, takeFrom, takeFound, takeNext, takeUpTo, taken, handed}
+use Rattle.picking.specs.declared.Move.{Move}
+use Rattle.picking.specs.Taking.{Taken, takeFrom, takeFound, takeNext, takeUpTo, taken, handed}
 use Rattle.picking.specs.InTable.{Moved, oneMore, moveFrom, moveFound, moveNext, moveUpTo, inTable}
 
 -- pieces of others behind do not matter to the selection
@@ -67,7 +68,7 @@ module _ (better : Piece → Piece → Bool) (s : ℕ) where
         next false i = rw (select-append ps qs h) (found (select better s ps) i)
 
 -- The theorem: document 01's wording, and what the proofs use.
-pub in-table : (rule : ℕ) (x : Transfer) (ps : List Piece) → x .destination ≢ x .source
+pub in-table : (rule : ℕ) (x : Move) (ps : List Piece) → x .destination ≢ x .source
     → let r = taken rule x ps in inTable rule x ps ≡ record { pieces = handed x r; whole = r .whole; split = r .split; missing = r .born }
 unfolding inTable taken
 in-table rule x ps apart =

@@ -18,7 +18,8 @@ use Rattle.table.specs.Pieces.{noPiece, ofWeight, All}
 use Rattle.sorting.proofs.Laws.{length-sort}
 use Rattle.picking.specs.declared.plan.Plan.{Plan}
 use Rattle.picking.specs.Selection.{Found, nothing, at, behind, against, select}
-use Rattle.picking.specs.Transfer.{Transfer, Taken, stop, oneWhole, takeFrom, takeFound, takeNext, takeUpTo, taken}
+use Rattle.picking.specs.declared.Move.{Move}
+use Rattle.picking.specs.Taking.{Taken, stop, oneWhole, takeFrom, takeFound, takeNext, takeUpTo, taken}
 use Rattle.picking.specs.Plan.{byBirth, backwards, keyOf, placeOf, atKey, keysOf, turned, orderOf, MARK, mark, stay, markAt, marked, picked, halt, planFrom, reduced, outcome, planned}
 use Rattle.picking.proofs.Marks.{stay-append, stay-all}
 use Rattle.picking.proofs.Picks.{prefers, rule-is, place-key, Headed, Picked, picks-first}
@@ -223,7 +224,7 @@ length-order old true s i ps = rw (length-reverse, length-sort) (length-keys old
 length-order old false s i ps = rw length-sort (length-keys old s i ps)
 
 -- The theorem.
-pub taken-planned : (rule : ℕ) (x : Transfer) (ps : List Piece) → x .source < MARK → length ps ≤ 4096 → All (λ p. p .holder < MARK) ps
+pub taken-planned : (rule : ℕ) (x : Move) (ps : List Piece) → x .source < MARK → length ps ≤ 4096 → All (λ p. p .holder < MARK) ps
     → taken rule x ps ≡ planned rule x ps
 unfolding taken planned
 taken-planned rule x ps hs h u =

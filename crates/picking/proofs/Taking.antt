@@ -14,7 +14,8 @@ use Rattle.table.specs.declared.Piece.{Piece}
 use Rattle.table.specs.Pieces.{ofWeight, Kind, weigh, sum, inVessel, held, weightOf, All, done, also}
 use Rattle.table.proofs.Pieces.{total-append, in-two, all-append, all-split, all-head, all-tail}
 use Rattle.picking.specs.Selection.{Found, nothing, at, behind, against, select, wins}
-use Rattle.picking.specs.Transfer.{Transfer, Taken, stop, takeFrom, takeFound, takeNext, takeUpTo, taken}
+use Rattle.picking.specs.declared.Move.{Move}
+use Rattle.picking.specs.Taking.{Taken, stop, takeFrom, takeFound, takeNext, takeUpTo, taken}
 
 -- What a selection for vessel s owes: a piece of s where it stands, or nothing where s holds no weight.
 abbrev pub Good : ℕ → List Piece → Found → Type 0
@@ -122,6 +123,6 @@ module _ (s : ℕ) where
       go false e l = let z : want ≢ 0 = eqb-false _ _ e in law-found n (takeUpTo pick n) l want ps c (omega arith) (pick ps) (good ps)
 
 -- What a transfer takes, under any rule.
-pub taken-law : (rule : ℕ) (x : Transfer) (ps : List Piece) → Law (x .source) (x .weight) ps (taken rule x ps)
+pub taken-law : (rule : ℕ) (x : Move) (ps : List Piece) → Law (x .source) (x .weight) ps (taken rule x ps)
 unfolding taken
 taken-law rule x ps = law (x .source) _ (select-good (wins rule) (x .source)) (length ps) (x .weight) ps (omega arith)

@@ -10,7 +10,8 @@ use lib.ListN.{length}
 use Rattle.table.specs.declared.Piece.{Piece}
 use Rattle.table.specs.Pieces.{ofWeight, handTo, ifAny}
 use Rattle.picking.specs.Selection.{Found, nothing, at, wins, select}
-use Rattle.picking.specs.Transfer.{Transfer, newborn}
+use Rattle.picking.specs.declared.Move.{Move}
+use Rattle.picking.specs.Taking.{newborn}
 
 -- The pieces, how many moved whole, how many were split, and the weight that is missing.
 pub record Moved : Type 0 where
@@ -44,7 +45,7 @@ moveUpTo pick d zero want ps = stopped want ps
 moveUpTo pick d (suc n) want ps = moveNext pick (moveUpTo pick d n) d want ps (eqb want 0)
 
 -- the pieces after a transfer
-unfoldable pub inTable : ℕ → Transfer → List Piece → Moved
+unfoldable pub inTable : ℕ → Move → List Piece → Moved
 inTable rule x ps =
     let r = moveUpTo (select (wins rule) (x .source)) (x .destination) (length ps) (x .weight) ps in
     record { pieces = r .pieces ++ ifAny (newborn x (r .missing)); whole = r .whole; split = r .split; missing = r .missing }

@@ -1,5 +1,5 @@
 pub mod Selection
-pub mod Transfer
+pub mod Taking
 pub mod InTable
 pub mod Plan
 pub mod Ordering

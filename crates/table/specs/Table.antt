@@ -37,5 +37,8 @@ abbrev pub putIn : ℕ → ℕ → Piece → List ℕ → List ℕ
 putIn n i p t = over n (set (piecesOf n t) i p) t
 
 -- "Places = table length divided by 4, rounded down, but never above 4,096."
+abbrev pub mostPlaces : ℕ
+mostPlaces = 4096
+
 unfoldable pub placesOf : List ℕ → ℕ
-placesOf t = min 4096 (length t / 4)
+placesOf t = min mostPlaces (length t / 4)

@@ -9,14 +9,8 @@ use lib.Dec.{leb, eqb}
 use lib.ListN.{length}
 use Rattle.table.specs.declared.Piece.{Piece}
 use Rattle.table.specs.Pieces.{ofWeight, handTo, ifAny}
+use Rattle.picking.specs.declared.Move.{Move}
 use Rattle.picking.specs.Selection.{Found, nothing, at, wins, select}
-
--- "It has source s, destination d, minute t, weight q."
-pub record Transfer : Type 0 where
-  pub source : ℕ
-  pub destination : ℕ
-  pub minute : ℕ
-  pub weight : ℕ
 
 -- What is taken: the pieces that stay, in their order; those given, in picked order, still with their old holder;
 -- the number of pieces moved whole, of pieces split, and the weight born.
@@ -57,13 +51,13 @@ takeUpTo pick zero want ps = stop want ps
 takeUpTo pick (suc n) want ps = takeNext pick (takeUpTo pick n) want ps (eqb want 0)
 
 -- What a transfer takes under a rule.
-unfoldable pub taken : ℕ → Transfer → List Piece → Taken
+unfoldable pub taken : ℕ → Move → List Piece → Taken
 taken rule x ps = takeUpTo (select (wins rule) (x .source)) (length ps) (x .weight) ps
 
 -- "If s runs out, the missing weight is born: a piece (d, s, t, missing) joins the end."
-abbrev pub newborn : Transfer → ℕ → Piece
-newborn x w = record { holder = x .destination; origin = x .source; birth = x .minute; weight = w }
+abbrev pub newborn : Move → ℕ → Piece
+newborn x w = record { holder = x .destination; origin = x .source; birth = x .birth; weight = w }
 
 -- the pieces after what was taken is handed over
-abbrev pub handed : Transfer → Taken → List Piece
+abbrev pub handed : Move → Taken → List Piece
 handed x r = r .rest ++ (map (handTo (x .destination)) (r .given) ++ ifAny (newborn x (r .born)))
