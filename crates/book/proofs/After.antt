@@ -2,49 +2,39 @@
 -- transfers makes checks 1 and 4 once.
 -- Assumes nothing.
 use mathlib.Core.Path.{_≡_, refl, sym, _∙_}
-use mathlib.Core.Bool.{Bool, true, false, cond}
 use mathlib.Core.List.{List}
-use Prim.Native.Nat.{ℕ, zero, suc, _+_, _≤_}
+use Prim.Native.Nat.{ℕ, zero, suc}
 use native.Mathlib.Omega.{arith}
-use lib.Dec.{ltb}
-use lib.ListN.{length, getD, length-append, length-drop, List·getD-eq-default}
-use borrow.Author.Tests.{ltb-true, ltb-false}
-use Rattle.table.specs.Pieces.{held, done}
+use lib.ListN.{length}
+use borrow.Author.Tests.{ltb-false}
+use Rattle.table.specs.Pieces.{done}
 use Rattle.table.specs.Table.{placesOf, flat}
-use Rattle.table.proofs.Table.{length-flat, quad-is, places-fit}
-use Rattle.refusal.specs.Numbers.{TOP, first}
-use Rattle.refusal.proofs.Numbers.{passed}
+use Rattle.table.proofs.Pieces.{all-map}
+use Rattle.refusal.specs.Numbers.{first}
+use Rattle.refusal.proofs.Numbers.{Passed, passed}
 use Rattle.book.specs.declared.Head.{Head}
-use Rattle.book.specs.Head.{Book, balanceOf, balancesOf, headOf, bookOf, Sized, emptyHead, opened, openChecks}
+use Rattle.book.specs.Head.{Book, Sized, headOf, bookOf, emptyHead, opened, openChecks}
 use Rattle.book.specs.Calls.{Call}
 use Rattle.book.specs.Memory.{outcome, numberOf, callOn}
-use Rattle.book.proofs.Balances.{length-tab, getD-tab, fresh-head}
-use Rattle.book.proofs.Step.{number, Ok, ok-after}
-use Rattle.book.proofs.Memory.{On, adds, in-step, number-same}
-use Rattle.book.proofs.Known.{Known, ok, on}
+use Rattle.book.proofs.BalanceLaws.{balances-match, balance-held, fresh-head}
+use Rattle.book.proofs.Sound.{SoundBook, keeps}
+use Rattle.book.proofs.Memory.{On, adds, number-same, in-step}
+use Rattle.book.proofs.Known.{Known, known-up}
 
 -- the head of a sound book has numbers of 32 bits
-sized-head : (places : ℕ) (b : Book) → Ok places b → Sized (headOf b)
-unfolding balancesOf
-sized-head places b o = record { light = λ v. go v (ltb v 64) refl; tally = o .tally }
-  where
-    least : (t : Bool) (v : ℕ) → cond t (held v (b .pieces)) 0 ≤ TOP
-    least true v = o .light v
-    least false v = omega arith
-
-    go : (v : ℕ) (t : Bool) → ltb v 64 ≡ t → getD (balancesOf (b .vessels) (b .pieces)) v 0 ≤ TOP
-    go v true e = rw (getD-tab (balanceOf (b .vessels) (b .pieces)) 0 64 v (ltb-true v 64 e)) (least (ltb (0 + v) (b .vessels)) (0 + v))
-    go v false e = rw (List·getD-eq-default (balancesOf (b .vessels) (b .pieces)) 0 {n = v} (rw (length-tab (balanceOf (b .vessels) (b .pieces)) 0 64) (ltb-false v 64 e))) (omega arith)
+sized-head : (places : ℕ) (b : Book) → SoundBook places b → Sized (headOf b)
+sized-head places b o =
+    let holders = all-map (λ p f. f .holder-in) (o .sound) in
+    let matches = balances-match (b .vessels) (headOf b .balances) (b .pieces) holders refl in
+    record { light = λ v. rw (balance-held (headOf b) (b .vessels) (b .pieces) (o .vessels-fit) holders matches v) (o .light v); tally = o .tally }
 
 -- a head and a table that hold a sound book are known
-pub on-known : (places : ℕ) (h : Head) (t : List ℕ) (b : Book) → On places h t b → Ok places b → Known h t
-on-known places h t b on o = record { adds-up = adds places h t b on o; sized = rw (on .head-is) (sized-head places b o) }
+on-known : (places : ℕ) (h : Head) (t : List ℕ) (b : Book) → On places h t b → SoundBook places b → Known h t
+on-known places h t b on o = known-up h t (rw (on .head-is) (sized-head places b o)) (adds places h t b on o)
 
 module _ (h : Head) (t : List ℕ) (k : Known h t) (c : Call) where
-  pub known-after : (callOn h t c) .number ≡ 0 → Known ((callOn h t c) .head) ((callOn h t c) .table)
-  known-after e =
-      let s = in-step (placesOf t) h t (bookOf h t) (on h t k) (ok h t k) c in
-      on-known (placesOf t) _ _ _ (s .2) (s .3)
+  pub known-after : Known ((callOn h t c) .head) ((callOn h t c) .table)
+  known-after = let s = in-step (placesOf t) h t (bookOf h t) (k .on) (k .sound) c in on-known (placesOf t) _ _ _ (s .holds) (s .sound)
 
   pub length-after : length ((callOn h t c) .table) ≡ length t
   unfolding callOn
@@ -52,29 +42,29 @@ module _ (h : Head) (t : List ℕ) (k : Known h t) (c : Call) where
     where
       go : (n : ℕ) → numberOf h t c ≡ n → length ((outcome h t c n) .table) ≡ length t
       go zero e =
-          let o = ok-after (placesOf t) (bookOf h t) c (ok h t k) (sym (number-same (placesOf t) h t (bookOf h t) (on h t k) (ok h t k) c) ∙ e) in
-          let f = places-fit t _ (placesOf t) refl (o .fits) in
-          simp (length-append, length-flat, ← quad-is, length-drop) (omega arith)
+          let e′ = sym (number-same (placesOf t) h t (bookOf h t) (k .on) (k .sound) c) ∙ e in
+          keeps (placesOf t) (bookOf h t) c (k .sound) e′ .long t (k .on .lies)
       go (suc n) e = refl
 
 -- a fresh book
-pub fresh : (places rule size : ℕ) → first (openChecks rule size) ≡ 0 → Ok places (opened rule size)
-fresh places rule size e =
-    let p = passed (openChecks rule size) tt e in
-    record {
-      known = ltb-false 3 rule (p .0);
-      some-vessel = ltb-false size 1 (p .1 .0);
-      vessels-fit = ltb-false 64 size (p .1 .1 .0);
-      fits = omega arith;
-      counted = omega arith;
-      sound = done;
-      light = λ v. omega arith;
-      tally = omega arith;
-    }
+by-name : (places rule size : ℕ) → Passed (openChecks rule size) → SoundBook places (opened rule size)
+by-name places rule size (above, (below, (beyond, end))) = record {
+  known = ltb-false _ rule above;
+  some-vessel = ltb-false size 1 below;
+  vessels-fit = ltb-false _ size beyond;
+  fits = omega arith;
+  counted = omega arith;
+  sound = done;
+  light = λ v. omega arith;
+  tally = omega arith;
+}
+
+pub fresh : (places rule size : ℕ) → first (openChecks rule size) ≡ 0 → SoundBook places (opened rule size)
+fresh places rule size e = by-name places rule size (passed (openChecks rule size) tt e)
 
 pub fresh-on : (rule size : ℕ) (t : List ℕ) → On (placesOf t) (emptyHead rule size) t (opened rule size)
 unfolding flat
-fresh-on rule size t = record { tail = t; head-is = fresh-head rule size; table-is = refl; places-is = refl }
+fresh-on rule size t = record { head-is = fresh-head rule size; lies = record { tail = t; table-is = refl; places-is = refl } }
 
 pub fresh-known : (rule size : ℕ) (t : List ℕ) → first (openChecks rule size) ≡ 0 → Known (emptyHead rule size) t
 fresh-known rule size t e = on-known (placesOf t) _ t _ (fresh-on rule size t) (fresh (placesOf t) rule size e)

@@ -18,11 +18,11 @@ use Rattle.table.specs.Table.{piecesOf, placesOf}
 use Rattle.table.proofs.Pieces.{all-map}
 use Rattle.table.proofs.Table.{length-pieces}
 use Rattle.book.specs.declared.Head.{Head}
-use Rattle.book.specs.Head.{balancesOf, fits, allFit, same, addsUp}
+use Rattle.book.specs.Head.{lastRule, mostVessels, balancesOf, fits, allFit, same, addsUp}
 use Rattle.book.specs.Audit.{covers, drawn, allZero, drained}
-use Rattle.book.proofs.Step.{Sound}
-use Rattle.book.proofs.Memory.{both, sound-fit, all-fit, fit-sound, all-sound, same-refl, same-eq}
-use Rattle.book.proofs.Balances.{Matches, matches-balances, balances-match}
+use Rattle.book.proofs.Sound.{SoundPiece}
+use Rattle.book.proofs.HeadLaws.{both, sound-fit, all-fit, fit-sound, all-sound, same-refl, same-eq}
+use Rattle.book.proofs.BalanceLaws.{Matches, matches-balances, balances-match}
 
 -- two tests that imply each other are the same
 same-test : (a b : Bool) → (a ≡ true → b ≡ true) → (b ≡ true → a ≡ true) → a ≡ b
@@ -42,11 +42,11 @@ at-zero [] h = refl
 at-zero (x ∷ l) h = rw (eq-eqb x 0 (h 0 (omega arith)), at-zero l (λ v u. h (suc v) (omega arith)))
 
 -- what is left of the balances after p, at v
-module _ (rest : List ℕ) (p : Piece) (ps : List Piece) (small : p .holder < 64) where
-  left-matches : p .weight ≤ getD rest (p .holder) 0 → length rest ≡ 64 → Matches (drawn rest p) ps → Matches rest (p ∷ ps)
+module _ (rest : List ℕ) (p : Piece) (ps : List Piece) (small : p .holder < mostVessels) where
+  left-matches : p .weight ≤ getD rest (p .holder) 0 → length rest ≡ mostVessels → Matches (drawn rest p) ps → Matches rest (p ∷ ps)
   left-matches w long m = record { long = long; each = λ v h. go v h (eqb (p .holder) v) refl }
     where
-      go : (v : ℕ) → v < 64 → (t : Bool) → eqb (p .holder) v ≡ t → getD rest v 0 ≡ held v (p ∷ ps)
+      go : (v : ℕ) → v < mostVessels → (t : Bool) → eqb (p .holder) v ≡ t → getD rest v 0 ≡ held v (p ∷ ps)
       go v h true e =
           let q : p .holder ≡ v = eqb-true _ _ e in
           rw (e, ← q) (omega (arith, m .each (p .holder) small, getD-set-same rest (p .holder) (getD rest (p .holder) 0 - p .weight) 0 (rw long small)))
@@ -56,14 +56,14 @@ module _ (rest : List ℕ) (p : Piece) (ps : List Piece) (small : p .holder < 64
   drawn-matches : Matches rest (p ∷ ps) → Matches (drawn rest p) ps
   drawn-matches m = record { long = length-set rest (p .holder) _ ∙ m .long; each = λ v h. go v h (eqb (p .holder) v) refl (m .each v h) }
     where
-      go : (v : ℕ) → v < 64 → (t : Bool) → eqb (p .holder) v ≡ t → getD rest v 0 ≡ held v (p ∷ ps) → getD (drawn rest p) v 0 ≡ held v ps
+      go : (v : ℕ) → v < mostVessels → (t : Bool) → eqb (p .holder) v ≡ t → getD rest v 0 ≡ held v (p ∷ ps) → getD (drawn rest p) v 0 ≡ held v ps
       go v h true e k =
           let q : p .holder ≡ v = eqb-true _ _ e in
           rw (← q) (omega (arith, rw (e, ← q) at k, getD-set-same rest (p .holder) (getD rest (p .holder) 0 - p .weight) 0 (rw (m .long) small)))
       go v h false e k = getD-set-other rest (p .holder) v _ 0 (λ z. eqb-false _ _ e (sym z)) ∙ omega (arith, rw e at k)
 
-module _ (size last : ℕ) (small : size ≤ 64) where
-  drained-matches : (ps : List Piece) (rest : List ℕ) → length rest ≡ 64 → drained size last rest ps ≡ true → All (Sound size last) ps × Matches rest ps
+module _ (size last : ℕ) (small : size ≤ mostVessels) where
+  drained-matches : (ps : List Piece) (rest : List ℕ) → length rest ≡ mostVessels → drained size last rest ps ≡ true → All (SoundPiece size last) ps × Matches rest ps
   unfolding drained
   drained-matches [] rest long e = (done, record { long = long; each = λ v h. zero-at rest e v (rw long h) })
   drained-matches (p ∷ ps) rest long e =
@@ -73,19 +73,19 @@ module _ (size last : ℕ) (small : size ≤ 64) where
       let i = drained-matches ps (drawn rest p) (length-set rest (p .holder) _ ∙ long) (u .1) in
       (also f (i .0), left-matches rest p ps (omega (arith, f .holder-in)) (leb-true _ _ (k .1)) long (i .1))
 
-  matches-drained : (ps : List Piece) (rest : List ℕ) → All (Sound size last) ps → Matches rest ps → drained size last rest ps ≡ true
+  matches-drained : (ps : List Piece) (rest : List ℕ) → All (SoundPiece size last) ps → Matches rest ps → drained size last rest ps ≡ true
   unfolding drained
   matches-drained [] rest done m = at-zero rest (λ v h. m .each v (rw (m .long) at h))
   matches-drained (p ∷ ps) rest (also f x) m =
-      let h : p .holder < 64 = omega (arith, f .holder-in) in
+      let h : p .holder < mostVessels = omega (arith, f .holder-in) in
       let w : p .weight ≤ getD rest (p .holder) 0 = rw (m .each (p .holder) h, eq-eqb (p .holder) (p .holder) refl) (omega arith) in
       rw (sound-fit size last p f, le-leb _ _ w) (matches-drained ps (drawn rest p) x (drawn-matches rest p ps h m))
 
-  holders : {ps : List Piece} → All (Sound size last) ps → All (λ p. p .holder < size) ps
+  holders : {ps : List Piece} → All (SoundPiece size last) ps → All (λ p. p .holder < size) ps
   holders x = all-map (λ p f. f .holder-in) x
 
   -- one pass finds what two clauses of `addsUp` say
-  pub drained-is : (ps : List Piece) (rest : List ℕ) → length rest ≡ 64 → drained size last rest ps ≡ (allFit size last ps && same rest (balancesOf size ps))
+  pub drained-is : (ps : List Piece) (rest : List ℕ) → length rest ≡ mostVessels → drained size last rest ps ≡ (allFit size last ps && same rest (balancesOf size ps))
   drained-is ps rest long = same-test _ _ there back
     where
       there : drained size last rest ps ≡ true → (allFit size last ps && same rest (balancesOf size ps)) ≡ true
@@ -134,14 +134,14 @@ module _ (size last : ℕ) (rest : List ℕ) (p : Piece) (b : Bool) (eb : b ≡ 
   tests : (fits size last p ≡ true) × (leb (p .weight) (getD rest (p .holder) 0) ≡ true)
   tests = both (fits size last p) (leb (p .weight) (getD rest (p .holder) 0)) (sym eb ∙ q)
 
-  pub covered-holder : size ≤ 64 → p .holder < 64
+  pub covered-holder : size ≤ mostVessels → p .holder < mostVessels
   covered-holder h = let f = fit-sound size last p (tests .0) in omega (arith, f .holder-in)
 
   pub covered-weight : p .weight ≤ getD rest (p .holder) 0
   covered-weight = leb-true _ _ (tests .1)
 
--- a piece that fits has its holder among the 64
-pub within : (size last : ℕ) (p : Piece) (b : Bool) (rest : List ℕ) → b ≡ fits size last p → b ≡ true → size ≤ 64 → length rest ≡ 64 → p .holder < length rest
+-- a piece that fits has its holder among the mostVessels
+pub within : (size last : ℕ) (p : Piece) (b : Bool) (rest : List ℕ) → b ≡ fits size last p → b ≡ true → size ≤ mostVessels → length rest ≡ mostVessels → p .holder < length rest
 within size last p b rest e q h long = let f = fit-sound size last p (sym e ∙ q) in omega (arith, f .holder-in)
 
 pub test-passed : (a b c : Bool) → a ≡ b → a ≡ true → c ≡ (b && c)
@@ -152,15 +152,15 @@ test-failed a b c e q = rw (← e, q)
 
 -- `adds_up`, at its returns
 module _ (h : Head) (t : List ℕ) where
-  pub places-short : (m : ℕ) → m ≡ placesOf t → h .rule ≤ 3 → 1 ≤ h .vessels → h .vessels ≤ 64 → m < h .pieces → false ≡ addsUp h t
+  pub places-short : (m : ℕ) → m ≡ placesOf t → h .rule ≤ lastRule → 1 ≤ h .vessels → h .vessels ≤ mostVessels → m < h .pieces → false ≡ addsUp h t
   unfolding addsUp
   places-short m e r v w k = rw (le-leb _ _ r, le-leb 1 _ v, le-leb _ _ w, lt-leb (h .pieces) (placesOf t) (rw e at k))
 
-  pub tally-short : (m : ℕ) → m ≡ placesOf t → h .rule ≤ 3 → 1 ≤ h .vessels → h .vessels ≤ 64 → h .pieces ≤ m → h .accepted < h .pieces → false ≡ addsUp h t
+  pub tally-short : (m : ℕ) → m ≡ placesOf t → h .rule ≤ lastRule → 1 ≤ h .vessels → h .vessels ≤ mostVessels → h .pieces ≤ m → h .accepted < h .pieces → false ≡ addsUp h t
   unfolding addsUp
   tally-short m e r v w k a = rw (le-leb _ _ r, le-leb 1 _ v, le-leb _ _ w, le-leb (h .pieces) (placesOf t) (rw e at k), lt-leb _ _ a)
 
-  pub adds-end : (m : ℕ) (b : Bool) → m ≡ placesOf t → h .rule ≤ 3 → 1 ≤ h .vessels → h .vessels ≤ 64 → h .pieces ≤ m → h .pieces ≤ h .accepted → length (h .balances) ≡ 64
+  pub adds-end : (m : ℕ) (b : Bool) → m ≡ placesOf t → h .rule ≤ lastRule → 1 ≤ h .vessels → h .vessels ≤ mostVessels → h .pieces ≤ m → h .pieces ≤ h .accepted → length (h .balances) ≡ mostVessels
       → b ≡ drained (h .vessels) (h .last) (h .balances) (piecesOf (h .pieces) t) → b ≡ addsUp h t
   unfolding addsUp
   adds-end m b e r v w k a long eb =

@@ -1,92 +1,72 @@
--- A head and a table that add up hold a sound book; and what the code reads off the head is what the pieces say.
+-- A head and a table that add up, as one record: the book that they hold is sound, and what the code reads off the head is what the
+-- pieces say. It is made here, and nowhere else are the tests taken apart.
 -- Assumes nothing.
 use mathlib.Core.Path.{_≡_, refl, sym, _∙_}
-use mathlib.Core.Bool.{Bool, true, false}
+use mathlib.Core.Bool.{true}
 use mathlib.Core.List.{List}
 use Prim.Native.Nat.{ℕ, _*_, _≤_, _<_}
-use native.Mathlib.Omega.{arith}
-use lib.Dec.{ltb}
-use lib.ListN.{getD, drop, List·getD-eq-default}
-use borrow.Author.Tests.{leb-true, ltb-true, ltb-false}
+use lib.ListN.{length, drop}
+use borrow.Author.Tests.{leb-true}
 use Rattle.table.specs.Pieces.{held, All}
 use Rattle.table.specs.Table.{piecesOf, placesOf}
 use Rattle.table.proofs.Pieces.{all-map}
-use Rattle.table.proofs.Table.{length-pieces}
-use Rattle.picking.specs.Transfer.{Transfer}
+use Rattle.table.proofs.Table.{length-pieces, formed, places-fit}
 use Rattle.refusal.specs.Numbers.{first}
 use Rattle.book.specs.declared.Head.{Head}
-use Rattle.book.specs.Head.{balancesOf, bookOf, bookTests, addsUp, Sized}
-use Rattle.book.specs.Calls.{transferChecks, checksOf}
-use Rattle.book.specs.Memory.{bookChecks, Workable}
-use Rattle.book.proofs.Balances.{Matches, balances-match, held-none}
-use Rattle.book.proofs.Step.{Ok, Sound}
-use Rattle.book.proofs.Memory.{On, Hold, all-sound, same-eq, book-passed, book-tests, adds-head, adds-table}
+use Rattle.book.specs.declared.Transfer.{Transfer}
+use Rattle.book.specs.Head.{Sized, balanceAt, balancesOf, bookOf, bookTests, addsUp}
+use Rattle.book.specs.Transfer.{ofBook, ofHead, transferChecks}
+use Rattle.book.specs.Memory.{bookChecks}
+use Rattle.book.proofs.BalanceLaws.{Matches, balances-match, balance-held}
+use Rattle.book.proofs.Sound.{SoundPiece, SoundBook}
+use Rattle.book.proofs.HeadLaws.{Hold, hold, all-sound, same-eq}
+use Rattle.book.proofs.Memory.{On, book-passed}
 
--- A book in memory that adds up.
 pub record Known (h : Head) (t : List ℕ) : Type 0 where
-  pub adds-up : addsUp h t ≡ true
-  pub sized : Sized h
+  pub sound : SoundBook (placesOf t) (bookOf h t)
+  pub on : On (placesOf t) h t (bookOf h t)
+  pub there : 4 * h .pieces ≤ length t
+  pub matches : Matches (h .balances) (piecesOf (h .pieces) t)
+  pub balance : (v : ℕ) → balanceAt h v ≡ held v (piecesOf (h .pieces) t)
+
+holders : {size last : ℕ} {ps : _} → All (SoundPiece size last) ps → All (λ p. p .holder < size) ps
+holders x = all-map (λ p f. f .holder-in) x
+
+by-name : (h : Head) (t : List ℕ) → Sized h → Hold (bookTests h t) → Known h t
+by-name h t z (rule, (some, (most, (few, (counted, (fit, (equal, end))))))) =
+    let ps = piecesOf (h .pieces) t in
+    let long = length-pieces (h .pieces) t in
+    let pieces = all-sound _ _ ps fit in
+    let e = same-eq (h .balances) (balancesOf (h .vessels) ps) equal in
+    let m = balances-match (h .vessels) (h .balances) ps (holders pieces) e in
+    let b = balance-held h (h .vessels) ps (leb-true _ _ most) (holders pieces) m in
+    let room = places-fit t (h .pieces) (placesOf t) refl (leb-true _ _ few) in
+    record {
+      sound = record {
+        known = leb-true _ _ rule;
+        some-vessel = leb-true 1 _ some;
+        vessels-fit = leb-true _ _ most;
+        fits = rw long (leb-true _ _ few);
+        counted = rw long (leb-true _ _ counted);
+        sound = pieces;
+        light = λ v. rw (← (b v)) (z .light v);
+        tally = z .tally;
+      };
+      on = record { head-is = rw (long, ← e); lies = record { tail = drop (4 * h .pieces) t; table-is = formed (h .pieces) t room; places-is = refl } };
+      there = room;
+      matches = m;
+      balance = b;
+    }
+
+pub known-up : (h : Head) (t : List ℕ) → Sized h → addsUp h t ≡ true → Known h t
+unfolding addsUp
+known-up h t z a = by-name h t z (hold (bookTests h t) a)
 
 -- as checks 1 and 4 find it
 pub known : (h : Head) (t : List ℕ) (n : ℕ) → (n ≡ first (bookChecks h t)) × Sized h → n ≡ 0 → Known h t
-known h t n e z = record { adds-up = book-passed h t (sym (e .0) ∙ z) .1; sized = e .1 }
+known h t n (e, z) q = known-up h t z (book-passed h t (sym e ∙ q) .1)
 
--- as a transfer on a known book has it
-pub work-known : {h : Head} {t keys spare lifted : List ℕ} → Workable h t keys spare lifted → Known h t
-work-known w = record { adds-up = w .adds-up; sized = w .sized }
-
-module _ (h : Head) (t : List ℕ) (k : Known h t) where
-  tests : Hold (bookTests h t)
-  tests = book-tests h t (k .adds-up)
-
-  pub few : h .pieces ≤ placesOf t
-  few = leb-true _ _ (tests .1 .1 .1 .0)
-
-  pub vessels-fit : h .vessels ≤ 64
-  vessels-fit = leb-true _ 64 (tests .1 .1 .0)
-
-  pub sound : All (Sound (h .vessels) (h .last)) (piecesOf (h .pieces) t)
-  sound = all-sound _ _ _ (tests .1 .1 .1 .1 .1 .0)
-
-  pub holders : All (λ p. p .holder < h .vessels) (piecesOf (h .pieces) t)
-  holders = all-map (λ p f. f .holder-in) sound
-
-  balances-are : h .balances ≡ balancesOf (h .vessels) (piecesOf (h .pieces) t)
-  balances-are = same-eq _ _ (tests .1 .1 .1 .1 .1 .1 .0)
-
-  pub matches : Matches (h .balances) (piecesOf (h .pieces) t)
-  matches = balances-match (h .vessels) (h .balances) _ holders balances-are
-
-  -- a balance is what the vessel holds, past the 64th too
-  pub balance-held : (v : ℕ) → getD (h .balances) v 0 ≡ held v (piecesOf (h .pieces) t)
-  balance-held v = go (ltb v 64) refl
-    where
-      go : (c : Bool) → ltb v 64 ≡ c → getD (h .balances) v 0 ≡ held v (piecesOf (h .pieces) t)
-      go true e = matches .each v (ltb-true v 64 e)
-      go false e =
-          let g : 64 ≤ v = ltb-false v 64 e in
-          List·getD-eq-default (h .balances) 0 {n = v} (rw (matches .long) g) ∙ sym (held-none (h .vessels) v (omega (arith, vessels-fit)) holders)
-
-  pub ok : Ok (placesOf t) (bookOf h t)
-  ok = record {
-    known = leb-true _ _ (tests .0);
-    some-vessel = leb-true 1 _ (tests .1 .0);
-    vessels-fit = vessels-fit;
-    fits = rw (length-pieces (h .pieces) t) few;
-    counted = rw (length-pieces (h .pieces) t) (leb-true _ _ (tests .1 .1 .1 .1 .0));
-    sound = sound;
-    light = λ v. rw (← (balance-held v)) (k .sized .light v);
-    tally = k .sized .tally;
-  }
-
-  pub on : On (placesOf t) h t (bookOf h t)
-  on = record {
-    tail = drop (4 * h .pieces) t;
-    head-is = adds-head h t (k .adds-up);
-    table-is = adds-table h t (k .adds-up);
-    places-is = refl;
-  }
-
-  -- the code's checks 5 to 10, which look at the balance, are the book's
-  pub checks-same : (x : Transfer) → first (transferChecks (h .vessels) (getD (h .balances) (x .destination) 0) (h .last) (h .accepted) x) ≡ first (checksOf (bookOf h t) x)
-  checks-same x = rw (balance-held (x .destination))
+-- the code's checks 5 to 10, which look at the balances of the head, are the book's
+pub checks-same : (h : Head) (t : List ℕ) → Known h t → (x : Transfer) → first (transferChecks (ofHead h) x) ≡ first (transferChecks (ofBook (bookOf h t)) x)
+unfolding transferChecks
+checks-same h t k x = rw (k .balance (x .destination))

@@ -1,9 +1,11 @@
-pub mod Balances
+pub mod BalanceLaws
 pub mod Checks
-pub mod Step
+pub mod Sound
+pub mod Beside
+pub mod HeadLaws
 pub mod Memory
-pub mod Drained
 pub mod Known
+pub mod Drained
 pub mod After
 pub mod Lists
 pub mod Marked

@@ -10,19 +10,20 @@ use Rattle.table.specs.Table.{placesOf}
 use Rattle.refusal.specs.Numbers.{first, ifZero}
 use Rattle.book.specs.declared.Head.{Head}
 use Rattle.book.specs.Head.{Book, opened, openChecks, opens, opening, emptyHead}
-use Rattle.book.specs.Calls.{Call, says, leaves, noAnswer}
+use Rattle.book.specs.Calls.{Call, meaning}
 use Rattle.book.specs.Memory.{Outcome, callOn}
-use Rattle.book.specs.WeighBook.{WeighBook, weighed, blank, feed, forecast}
+use Rattle.book.specs.WeighBook.{WeighBook, weighing, blank, feed, forecast}
 use Rattle.book.specs.Lists.{Journal, callsOn, answered, follow, transfers, evens, numbers, Demand3}
-use Rattle.book.proofs.Step.{number, Ok, Beside, step}
-use Rattle.book.proofs.Memory.{On, back, adds, in-step}
+use Rattle.book.proofs.Sound.{number, SoundBook, keeps}
+use Rattle.book.proofs.Beside.{Beside, walks}
+use Rattle.book.proofs.Memory.{On, InStep, back, adds, in-step}
 use Rattle.book.proofs.After.{fresh, fresh-on}
 
 -- What holds of the journal r of the calls cs, from the book b and the weigh book w on.
 record Follows (places : ℕ) (b : Book) (w : WeighBook) (cs : List Call) (r : Journal) : Type 0 where
   final : Book
   on : On places (r .head) (r .table) final
-  ok : Ok places final
+  sound : SoundBook places final
   in-turn : final ≡ follow b (answered (r .log))
   beside : Beside final (feed w (answered (r .log)))
   count : length (final .pieces) + evens (r .log) + b .accepted ≡ length (b .pieces) + final .accepted
@@ -31,46 +32,44 @@ record Follows (places : ℕ) (b : Book) (w : WeighBook) (cs : List Call) (r : J
 
 module _ (places : ℕ) where
   abbrev Holds : List Call → Type 0
-  Holds cs = (h : Head) (t : List ℕ) (b : Book) (w : WeighBook) → On places h t b → Ok places b → Beside b w → Follows places b w cs (callsOn h t cs)
+  Holds cs = (h : Head) (t : List ℕ) (b : Book) (w : WeighBook) → On places h t b → SoundBook places b → Beside b w → Follows places b w cs (callsOn h t cs)
 
   follows : (cs : List Call) → Holds cs
   unfolding callsOn follow feed forecast
-  follows [] h t b w on o r = record { final = b; on = on; ok = o; in-turn = refl; beside = r; count = omega arith; tally = omega arith; forecasts = λ h. refl }
-  follows (c ∷ cs) h t b w on o r =
-      let s = in-step places h t b on o c in
-      go (number places b c) refl (s .0) (s .1) (s .2) (s .3) (follows cs)
+  follows [] h t b w on o r = record { final = b; on = on; sound = o; in-turn = refl; beside = r; count = omega arith; tally = omega arith; forecasts = λ h. refl }
+  follows (c ∷ cs) h t b w on o r = go (number places b c) refl (in-step places h t b on o c) (follows cs)
     where
       u : Outcome
       u = callOn h t c
 
-      go : (n : ℕ) → number places b c ≡ n → u .number ≡ n → u .answer ≡ ifZero n (says b c) noAnswer → On places (u .head) (u .table) (ifZero n (leaves b c) b) → Ok places (ifZero n (leaves b c) b)
-          → Holds cs → Follows places b w (c ∷ cs) (callsOn h t (c ∷ cs))
-      go zero e en ea on′ o′ next =
-          let a = step places b w c o r .accepts e in
-          let i = next (u .head) (u .table) (leaves b c) (weighed w c) on′ o′ (a .beside) in
+      go : (n : ℕ) → number places b c ≡ n → InStep places h t b on o c n → Holds cs → Follows places b w (c ∷ cs) (callsOn h t (c ∷ cs))
+      go zero e s next =
+          let k = keeps places b c o e in
+          let a = walks places b w c r .accepts e in
+          let i = next (u .head) (u .table) (meaning c .next b) (weighing c .next w) (s .holds) (s .sound) (a .beside) in
           record {
             final = i .final;
             on = i .on;
-            ok = i .ok;
-            in-turn = rw en (i .in-turn);
-            beside = rw (en, feed, a .weighs, feed) (i .beside);
-            count = rw (en, ea) (omega (arith, i .count, a .count, a .tally));
-            tally = rw en (omega (arith, i .tally, a .tally));
-            forecasts = λ h. rw (en, a .weighs, i .forecasts (omega (arith, a .count)));
+            sound = i .sound;
+            in-turn = rw (s .number-is) (i .in-turn);
+            beside = rw (s .number-is, feed, a .weighs, feed) (i .beside);
+            count = rw (s .even-is) (omega (arith, i .count, k .count, k .tally));
+            tally = rw (s .number-is) (omega (arith, i .tally, k .tally));
+            forecasts = λ h. rw (s .number-is, a .weighs, i .forecasts (omega (arith, k .count)));
           }
-      go (suc n) e en ea on′ o′ next =
-          let i = next (u .head) (u .table) b w on′ o r in
+      go (suc n) e s next =
+          let i = next (u .head) (u .table) b w (s .holds) o r in
           record {
             final = i .final;
             on = i .on;
-            ok = i .ok;
-            in-turn = rw en (i .in-turn);
-            beside = rw en (i .beside);
-            count = rw en (omega (arith, i .count));
-            tally = rw en (i .tally);
+            sound = i .sound;
+            in-turn = rw (s .number-is) (i .in-turn);
+            beside = rw (s .number-is) (i .beside);
+            count = rw (s .even-is) (omega (arith, i .count));
+            tally = rw (s .number-is) (i .tally);
             forecasts = λ h.
-                let f = step places b w c o r .foretells (omega arith) in
-                rw (en, f .stays n e, ← e, f .same (numbers ((callsOn (u .head) (u .table) cs) .log)), i .forecasts (omega arith));
+                let f = walks places b w c r .foretells (omega arith) in
+                rw (s .number-is, f .stays n e, ← e, f .same (numbers ((callsOn (u .head) (u .table) cs) .log)), i .forecasts (omega arith));
           }
 
 -- the theorem, from the fresh head
@@ -79,7 +78,7 @@ opened-demand rule size z t cs =
     let b = opened rule size in
     let f = follows (placesOf t) cs (emptyHead rule size) t b (blank size) (fresh-on rule size t) (fresh (placesOf t) rule size z)
     (record { same-size = refl; weights = λ v. refl; births = λ o t. refl; same-last = refl; same-count = refl }) in
-    let k = back (placesOf t) _ _ _ (f .on) (f .ok) in
+    let k = back (placesOf t) _ _ _ (f .on) (f .sound) in
     record {
       in-turn = k ∙ f .in-turn;
       vessel-sums = λ v. rw (ap (λ b. b .pieces) k) (f .beside .weights v);
@@ -87,7 +86,7 @@ opened-demand rule size z t cs =
       even-count = rw (f .on .head-is) (omega (arith, f .count));
       accepted-count = rw (f .on .head-is) (omega (arith, f .tally));
       forecasts = λ h. f .forecasts (omega arith);
-      adds-up = adds (placesOf t) _ _ _ (f .on) (f .ok);
+      adds-up = adds (placesOf t) _ _ _ (f .on) (f .sound);
     }
 
 -- DEMAND 3: for every opening that is accepted, every table and every list of calls.

@@ -8,13 +8,15 @@ use lib.ListN.{take, replicate}
 use Rattle.table.specs.Pieces.{held}
 use Rattle.table.specs.Table.{piecesOf, flat, placesOf}
 use Rattle.picking.specs.Selection.{precedes}
-use Rattle.picking.specs.Transfer.{Transfer, takeUpTo, taken}
+use Rattle.picking.specs.Taking.{takeUpTo, taken}
+use Rattle.book.specs.declared.Transfer.{Transfer}
 use Rattle.book.specs.Head.{Book, tab, balancesOf, allFit, same, addsUp, opening}
-use Rattle.book.specs.Calls.{transferChecks, takes, move, says, evenOf}
+use Rattle.book.specs.Transfer.{transferOf, transferChecks, takes}
+use Rattle.book.specs.Calls.{post, meaning}
 use Rattle.book.specs.Memory.{bookChecks, numberOf, callOn}
 use Rattle.book.specs.WeighBook.{WeighBook, blank, weighNumber, feed}
 use Rattle.book.specs.Lists.{Journal, callsOn, answered, evens, numbers}
-use Rattle.book.proofs.Step.{all-taken}
+use Rattle.book.proofs.Sound.{all-taken}
 
 pub data Name : Type 0 where
   K1 : Name
@@ -41,21 +43,24 @@ abbrev lent : List ℕ
 lent = replicate 32 9
 
 abbrev pub seen : Case → List ℕ
-seen c = (c .look) (callsOn ((opening (c .rule) 3) .head) lent (map move (c .given)))
+seen c = (c .look) (callsOn ((opening (c .rule) 3) .head) lent (map post (c .given)))
 
 -- What is looked at: the pieces and the even count; the births at some vessels and minutes; the balances of the head and the
 -- weights of the weigh book; the numbers answered; the even count.
-abbrev weighing : Journal → WeighBook
-weighing r = feed (blank 3) (answered (r .log))
+abbrev weighBook : Journal → WeighBook
+weighBook r = feed (blank 3) (answered (r .log))
 
 abbrev pieces : Journal → List ℕ
 pieces r = flat (piecesOf (r .head .pieces) (r .table)) ++ evens (r .log) ∷ []
 
+abbrev whole : Journal → List ℕ
+whole r = r .head .vessels ∷ r .head .rule ∷ r .head .accepted ∷ r .head .pieces ∷ pieces r
+
 abbrev births : Journal → List ℕ
-births r = (weighing r) .births 1 1 ∷ (weighing r) .births 2 3 ∷ (weighing r) .births 1 5 ∷ []
+births r = (weighBook r) .births 1 1 ∷ (weighBook r) .births 2 3 ∷ (weighBook r) .births 1 5 ∷ []
 
 abbrev balances : Journal → List ℕ
-balances r = take 3 (r .head .balances) ++ tab ((weighing r) .weight) 0 3
+balances r = take 3 (r .head .balances) ++ tab ((weighBook r) .weight) 0 3
 
 abbrev answers : Journal → List ℕ
 answers r = numbers (r .log)
@@ -63,23 +68,20 @@ answers r = numbers (r .log)
 abbrev even : Journal → List ℕ
 even r = evens (r .log) ∷ []
 
-abbrev tr : ℕ → ℕ → ℕ → ℕ → Transfer
-tr s d t q = record { source = s; destination = d; minute = t; weight = q }
-
 -- the six movements of the published table
 abbrev six : List Transfer
-six = tr 1 2 1 3 ∷ tr 2 0 3 5 ∷ tr 0 1 4 3 ∷ tr 1 2 5 7 ∷ tr 2 1 7 2 ∷ tr 2 0 8 1 ∷ []
+six = transferOf 1 2 1 3 ∷ transferOf 2 0 3 5 ∷ transferOf 0 1 4 3 ∷ transferOf 1 2 5 7 ∷ transferOf 2 1 7 2 ∷ transferOf 2 0 8 1 ∷ []
 
 -- two lots, and then all of them moved on
 abbrev emptied : List Transfer
-emptied = tr 0 1 1 2 ∷ tr 0 1 2 3 ∷ tr 1 2 3 5 ∷ []
+emptied = transferOf 0 1 1 2 ∷ transferOf 0 1 2 3 ∷ transferOf 1 2 3 5 ∷ []
 
 abbrev case : Name → ℕ → List Transfer → (Journal → List ℕ) → List ℕ → Case
 case k r xs f ns = record { name = k; rule = r; given = xs; look = f; wanted = ns }
 
 unfoldable pub marked : List Case
 marked =
-    case K1 2 six pieces (0 ∷ 2 ∷ 3 ∷ 2 ∷ 2 ∷ 1 ∷ 5 ∷ 4 ∷ 1 ∷ 1 ∷ 1 ∷ 2 ∷ 0 ∷ 1 ∷ 1 ∷ 1 ∷ 2 ∷ [])
+    case K1 2 six whole (3 ∷ 2 ∷ 6 ∷ 4 ∷ 0 ∷ 2 ∷ 3 ∷ 2 ∷ 2 ∷ 1 ∷ 5 ∷ 4 ∷ 1 ∷ 1 ∷ 1 ∷ 2 ∷ 0 ∷ 1 ∷ 1 ∷ 1 ∷ 2 ∷ [])
     ∷ case K2 0 six pieces (0 ∷ 2 ∷ 3 ∷ 2 ∷ 2 ∷ 1 ∷ 5 ∷ 4 ∷ 1 ∷ 1 ∷ 1 ∷ 2 ∷ 0 ∷ 1 ∷ 1 ∷ 1 ∷ 2 ∷ [])
     ∷ case K3 1 six pieces (0 ∷ 1 ∷ 1 ∷ 2 ∷ 2 ∷ 1 ∷ 1 ∷ 1 ∷ 2 ∷ 2 ∷ 3 ∷ 2 ∷ 2 ∷ 1 ∷ 5 ∷ 1 ∷ 1 ∷ 1 ∷ 5 ∷ 2 ∷ 0 ∷ 1 ∷ 5 ∷ 1 ∷ 0 ∷ [])
     ∷ case K4 3 six pieces (0 ∷ 1 ∷ 1 ∷ 2 ∷ 2 ∷ 2 ∷ 3 ∷ 2 ∷ 2 ∷ 1 ∷ 1 ∷ 1 ∷ 2 ∷ 1 ∷ 5 ∷ 1 ∷ 1 ∷ 1 ∷ 5 ∷ 2 ∷ 0 ∷ 1 ∷ 5 ∷ 1 ∷ 0 ∷ [])
@@ -91,13 +93,13 @@ marked =
     ∷ case K6 1 six balances (3 ∷ 2 ∷ 4 ∷ 3 ∷ 2 ∷ 4 ∷ [])
     ∷ case K6 2 six balances (3 ∷ 2 ∷ 4 ∷ 3 ∷ 2 ∷ 4 ∷ [])
     ∷ case K6 3 six balances (3 ∷ 2 ∷ 4 ∷ 3 ∷ 2 ∷ 4 ∷ [])
-    ∷ case K7 2 (six ++ tr 0 1 8 1 ∷ tr 0 1 7 1 ∷ []) answers (0 ∷ 0 ∷ 0 ∷ 0 ∷ 0 ∷ 0 ∷ 0 ∷ 8 ∷ [])
+    ∷ case K7 2 (six ++ transferOf 0 1 8 1 ∷ transferOf 0 1 7 1 ∷ []) answers (0 ∷ 0 ∷ 0 ∷ 0 ∷ 0 ∷ 0 ∷ 0 ∷ 8 ∷ [])
     ∷ case K8 0 emptied even (1 ∷ [])
     ∷ case K8 1 emptied even (1 ∷ [])
     ∷ case K8 2 emptied even (1 ∷ [])
     ∷ case K8 3 emptied even (1 ∷ [])
-    ∷ case K9 0 (tr 0 1 0 4294967294 ∷ tr 0 1 0 2 ∷ tr 0 1 0 1 ∷ []) answers (0 ∷ 9 ∷ 0 ∷ [])
-    ∷ case K10 0 (tr 1 1 0 0 ∷ []) answers (6 ∷ [])
+    ∷ case K9 0 (transferOf 0 1 0 4294967294 ∷ transferOf 0 1 0 2 ∷ transferOf 0 1 0 1 ∷ []) answers (0 ∷ 9 ∷ 0 ∷ [])
+    ∷ case K10 0 (transferOf 1 1 0 0 ∷ []) answers (6 ∷ [])
     ∷ []
 
 pub marked-cases : map seen marked ≡ map (λ c. c .wanted) marked
@@ -105,5 +107,5 @@ unfolding marked callsOn callOn numberOf bookChecks addsUp allFit same balancesO
 marked-cases = refl
 
 -- K8: "q = balance of s, above 0, accepted: even under every rule", of every book.
-pub even-law : (b : Book) (x : Transfer) → x .weight ≡ held (x .source) (b .pieces) → evenOf (move x) (says b (move x)) ≡ 1
+pub even-law : (b : Book) (x : Transfer) → x .weight ≡ held (x .source) (b .pieces) → meaning (post x) .even b ≡ 1
 even-law b x e = rw (all-taken 0 b x e)

@@ -4,9 +4,9 @@
 -- Definitions only. Assumes nothing.
 use mathlib.Core.Bool.{Bool, true, false, _&&_, cond}
 use mathlib.Core.List.{List, [], _∷_}
-use Prim.Native.Nat.{ℕ, zero, suc, _≤_}
+use Prim.Native.Nat.{ℕ, zero, suc, _+_, _-_, _≤_, _<_}
 use lib.Dec.{leb, ltb, eqb}
-use lib.ListN.{length, getD, replicate}
+use lib.ListN.{length, getD, set, replicate}
 use Rattle.table.specs.declared.Piece.{Piece}
 use Rattle.table.specs.Pieces.{held}
 use Rattle.table.specs.Table.{piecesOf, placesOf}
@@ -14,9 +14,36 @@ use Rattle.refusal.specs.Numbers.{TOP, Check, _if_, first}
 use Rattle.book.specs.declared.Head.{Head}
 use Rattle.book.specs.declared.Opened.{Opened}
 
+-- "rule is 0 to 3; V is 1 to 64"
+abbrev pub lastRule : ℕ
+lastRule = 3
+
+abbrev pub mostVessels : ℕ
+mostVessels = 64
+
+-- the balance of a holder, and the head with another one
+unfoldable pub balanceAt : Head → ℕ → ℕ
+balanceAt h v = getD (h .balances) v 0
+
+unfoldable pub withBalance : Head → ℕ → ℕ → Head
+withBalance h v w = record { rule = h .rule; vessels = h .vessels; pieces = h .pieces; last = h .last; accepted = h .accepted; balances = set (h .balances) v w }
+
+-- the head after a holder gave weight and another received weight
+abbrev pub shifted : Head → ℕ → ℕ → ℕ → ℕ → Head
+shifted h s given d received =
+    let less = withBalance h s (balanceAt h s - given) in
+    withBalance less d (balanceAt less d + received)
+
+-- The numbers of that head are ones of 32 bits: the source has what it gives, and the destination has room.
+pub record Shiftable (h : Head) (s given d received : ℕ) : Type 0 where
+  pub source-in : s < mostVessels
+  pub destination-in : d < mostVessels
+  pub there : given ≤ balanceAt h s
+  pub room : balanceAt (withBalance h s (balanceAt h s - given)) d + received ≤ TOP
+
 -- Every number of a head in memory is one of 32 bits. (So it is of any head that the code is given; the code's promises pass it on.)
 pub record Sized (h : Head) : Type 0 where
-  pub light : (v : ℕ) → getD (h .balances) v 0 ≤ TOP
+  pub light : (v : ℕ) → balanceAt h v ≤ TOP
   pub tally : h .accepted ≤ TOP
 
 -- A book: what the head says, and the pieces in order of receipt.
@@ -37,7 +64,7 @@ abbrev pub balanceOf : ℕ → List Piece → ℕ → ℕ
 balanceOf size ps v = cond (ltb v size) (held v ps) 0
 
 unfoldable pub balancesOf : ℕ → List Piece → List ℕ
-balancesOf size ps = tab (balanceOf size ps) 0 64
+balancesOf size ps = tab (balanceOf size ps) 0 mostVessels
 
 -- the head of a book, and the book that a head and a table are
 abbrev pub headOf : Book → Head
@@ -73,9 +100,9 @@ same (x ∷ xs) (y ∷ ys) = eqb x y && same xs ys
 -- "A book adds up if: rule is 0 to 3; V is 1 to 64; pieces ≤ places; pieces ≤ accepted; each piece ..; each balance .."
 abbrev pub bookTests : Head → List ℕ → List Bool
 bookTests h t =
-    leb (h .rule) 3
+    leb (h .rule) lastRule
     ∷ leb 1 (h .vessels)
-    ∷ leb (h .vessels) 64
+    ∷ leb (h .vessels) mostVessels
     ∷ leb (h .pieces) (placesOf t)
     ∷ leb (h .pieces) (h .accepted)
     ∷ allFit (h .vessels) (h .last) (piecesOf (h .pieces) t)
@@ -87,13 +114,13 @@ addsUp h t = allOf (bookTests h t)
 
 -- "Opening takes a rule and V; the fresh head has all other numbers 0." It checks 2, 3; a refusal gives a head of zeros.
 abbrev pub emptyHead : ℕ → ℕ → Head
-emptyHead rule size = record { rule = rule; vessels = size; pieces = 0; last = 0; accepted = 0; balances = replicate 64 0 }
+emptyHead rule size = record { rule = rule; vessels = size; pieces = 0; last = 0; accepted = 0; balances = replicate mostVessels 0 }
 
 abbrev pub notOpened : ℕ → Opened
 notOpened n = record { number = n; head = emptyHead 0 0 }
 
 abbrev pub openChecks : ℕ → ℕ → List Check
-openChecks rule size = 2 if ltb 3 rule ∷ 3 if ltb size 1 ∷ 3 if ltb 64 size ∷ []
+openChecks rule size = 2 if ltb lastRule rule ∷ 3 if ltb size 1 ∷ 3 if ltb mostVessels size ∷ []
 
 abbrev pub opens : ℕ → ℕ → ℕ → Opened
 opens rule size zero = record { number = 0; head = emptyHead rule size }

@@ -1,5 +1,6 @@
 pub mod Head
 pub mod Audit
+pub mod Transfer
 pub mod Reports
 pub mod Calls
 pub mod Memory

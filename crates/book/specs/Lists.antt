@@ -9,15 +9,15 @@ use Rattle.table.specs.Table.{placesOf}
 use Rattle.refusal.specs.Numbers.{ifZero}
 use Rattle.book.specs.declared.Head.{Head}
 use Rattle.book.specs.Head.{Book, bookOf, addsUp, opened}
-use Rattle.book.specs.Calls.{Call, Answer, leaves, counts, evenOf}
+use Rattle.book.specs.Calls.{Call, meaning}
 use Rattle.book.specs.Memory.{Outcome, callOn}
 use Rattle.book.specs.WeighBook.{blank, feed, listed, forecast}
 
--- a call with its number and answer
+-- a call with its number, and how often it was an even transfer
 pub record Entry : Type 0 where
   pub asked : Call
   pub number : ℕ
-  pub said : Answer
+  pub even : ℕ
 
 -- the journal of a list of calls, and the head and the table after it
 pub record Journal : Type 0 where
@@ -25,12 +25,12 @@ pub record Journal : Type 0 where
   pub head : Head
   pub table : List ℕ
 
-abbrev pub entered : Call → Outcome → Journal → Journal
-entered c o r = record { log = record { asked = c; number = o .number; said = o .answer } ∷ r .log; head = r .head; table = r .table }
+abbrev pub noted : Call → Outcome → Journal → Journal
+noted c o r = record { log = record { asked = c; number = o .number; even = o .even } ∷ r .log; head = r .head; table = r .table }
 
 unfoldable pub callsOn : Head → List ℕ → List Call → Journal
 callsOn h t [] = record { log = []; head = h; table = t }
-callsOn h t (c ∷ cs) = let o = callOn h t c in entered c o (callsOn (o .head) (o .table) cs)
+callsOn h t (c ∷ cs) = let o = callOn h t c in noted c o (callsOn (o .head) (o .table) cs)
 
 -- the calls answered 0
 abbrev pub answered : List Entry → List Call
@@ -40,16 +40,16 @@ answered (e ∷ es) = ifZero (e .number) (e .asked ∷ answered es) (answered es
 -- "Followed in turn": each of these calls does to the book what is said of it.
 unfoldable pub follow : Book → List Call → Book
 follow b [] = b
-follow b (c ∷ cs) = follow (leaves b c) cs
+follow b (c ∷ cs) = follow (meaning c .next b) cs
 
 -- how many of the calls are transfers; how many transfers answered 0 were even; the numbers of the transfers
 abbrev pub transfers : List Call → ℕ
 transfers [] = 0
-transfers (c ∷ cs) = counts c + transfers cs
+transfers (c ∷ cs) = meaning c .counts + transfers cs
 
 abbrev pub evens : List Entry → ℕ
 evens [] = 0
-evens (e ∷ es) = ifZero (e .number) (evenOf (e .asked) (e .said)) 0 + evens es
+evens (e ∷ es) = e .even + evens es
 
 abbrev pub numbers : List Entry → List ℕ
 numbers [] = []

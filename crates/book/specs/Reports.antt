@@ -8,6 +8,8 @@ use lib.ListN.{length, drop}
 use Rattle.table.specs.declared.Piece.{Piece}
 use Rattle.table.specs.Pieces.{Kind, sum}
 use Rattle.refusal.specs.Numbers.{Check, _if_}
+use Rattle.book.specs.declared.Report.{Report}
+use Rattle.book.specs.declared.Report.the-variants.{Held, Spread, Whole}
 use Rattle.book.specs.Head.{tab}
 
 -- "Held: vessel v, V numbers, the weight by origin in v."
@@ -30,22 +32,18 @@ unfoldable pub rows : ℕ → ℕ → ℕ → List Piece → List ℕ
 rows size v zero ps = []
 rows size v (suc n) ps = heldRow size v ps ++ rows size (suc v) n ps
 
-pub data Report : Type 0 where
-  heldBy : ℕ → Report
-  spread : ℕ → ℕ → ℕ → Report
-  whole : Report
-
+-- What a report writes: the record `Report` of src/lib.rt says what is asked.
 abbrev pub reportRow : ℕ → List Piece → Report → List ℕ
-reportRow size ps (heldBy v) = heldRow size v ps
-reportRow size ps (spread u from to) = spreadRow size u from to ps
-reportRow size ps whole = rows size 0 size ps
+reportRow size ps (Held v) = heldRow size v ps
+reportRow size ps (Spread u from to) = spreadRow size u from to ps
+reportRow size ps Whole = rows size 0 size ps
 
 -- checks 5, 12, 13, as they apply: of the number of vessels and the length of the room
 unfoldable pub reportChecks : ℕ → ℕ → Report → List Check
-reportChecks size room (heldBy v) = 5 if leb size v ∷ 13 if ltb room size ∷ []
-reportChecks size room (spread u from to) = 5 if leb size u ∷ 12 if ltb to from ∷ 13 if ltb room size ∷ []
-reportChecks size room whole = 13 if ltb room (size * size) ∷ []
+reportChecks size room (Held v) = 5 if leb size v ∷ 13 if ltb room size ∷ []
+reportChecks size room (Spread u from to) = 5 if leb size u ∷ 12 if ltb to from ∷ 13 if ltb room size ∷ []
+reportChecks size room Whole = 13 if ltb room (size * size) ∷ []
 
 -- "Numbers after these remain."
-abbrev pub over : List ℕ → List ℕ → List ℕ
-over w room = w ++ drop (length w) room
+abbrev pub onto : List ℕ → List ℕ → List ℕ
+onto w room = w ++ drop (length w) room

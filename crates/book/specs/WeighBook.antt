@@ -1,12 +1,14 @@
 -- "The weigh book": a plain machine with weights and births alone, and no pieces. It knows no rule.
 -- Definitions only. Assumes nothing.
-use mathlib.Core.Bool.{_&&_}
+use mathlib.Core.Bool.{Bool, true, false, _&&_, cond}
 use mathlib.Core.List.{List, [], _∷_}
 use Prim.Native.Nat.{ℕ, suc, _+_, _-_}
 use lib.Dec.{eqb}
 use Rattle.table.specs.Pieces.{only}
-use Rattle.refusal.specs.Numbers.{first, ifZero}
-use Rattle.book.specs.Calls.{Call, move, ask, transferChecks}
+use Rattle.refusal.specs.Numbers.{Check, first, ifZero}
+use Rattle.book.specs.declared.Transfer.{Transfer}
+use Rattle.book.specs.Transfer.{Standing, transferChecks, moveOf}
+use Rattle.book.specs.Calls.{Call, post, ask}
 
 -- "weight W of each vessel, births B of each vessel and minute, last minute, accepted; all 0 at first"
 pub record WeighBook : Type 0 where
@@ -19,37 +21,47 @@ pub record WeighBook : Type 0 where
 abbrev pub blank : ℕ → WeighBook
 blank size = record { vessels = size; weight = λ v. 0; births = λ o t. 0; last = 0; accepted = 0 }
 
--- "it checks 5 to 10 .. with W as balance"
-unfoldable pub weighNumber : WeighBook → Call → ℕ
-weighNumber w (move x) = first (transferChecks (w .vessels) (w .weight (x .destination)) (w .last) (w .accepted) x)
-weighNumber w (ask q room) = 0
+abbrev pub ofWeigh : WeighBook → Standing
+ofWeigh w = record { vessels = w .vessels; balance = w .weight; last = w .last; accepted = w .accepted }
 
 -- "born = q − W[s] if positive, else 0; W[s] falls by q − born; W[d] rises by q; B[s, t] rises by born; last = t; accepted rises by 1"
-abbrev pub weighed : WeighBook → Call → WeighBook
-weighed w (move x) =
+abbrev pub weighed : WeighBook → Transfer → WeighBook
+weighed w x =
     let born = x .weight - w .weight (x .source) in
     record {
       vessels = w .vessels;
       weight = λ v. (w .weight v - only (eqb (x .source) v) (x .weight - born)) + only (eqb (x .destination) v) (x .weight);
-      births = λ o t. w .births o t + only (eqb (x .source) o && eqb (x .minute) t) born;
+      births = λ o t. w .births o t + only (eqb (x .source) o && eqb (moveOf x .birth) t) born;
       last = x .minute;
       accepted = suc (w .accepted);
     }
-weighed w (ask q room) = w
+
+-- What a call is to the weigh book: its checks, the machine after it where none applies, and whether its number is forecast.
+pub record Weighing : Type 0 where
+  pub checks : WeighBook → List Check
+  pub next : WeighBook → WeighBook
+  pub forecasts : Bool
+
+-- "it checks 5 to 10 .. with W as balance"; reports it is not fed
+abbrev pub weighing : Call → Weighing
+weighing (post x) = record { checks = λ w. transferChecks (ofWeigh w) x; next = λ w. weighed w x; forecasts = true }
+weighing (ask q room) = record { checks = λ w. []; next = λ w. w; forecasts = false }
 
 -- "The first that applies is its answer, and nothing changes."
-abbrev pub weighStep : WeighBook → Call → WeighBook
-weighStep w c = ifZero (weighNumber w c) (weighed w c) w
+unfoldable pub weighNumber : WeighBook → Call → ℕ
+weighNumber w c = first (weighing c .checks w)
 
--- fed with calls, of which only transfers move it
+abbrev pub weighStep : WeighBook → Call → WeighBook
+weighStep w c = ifZero (weighNumber w c) (weighing c .next w) w
+
+-- fed with calls in turn
 unfoldable pub feed : WeighBook → List Call → WeighBook
 feed w [] = w
 feed w (c ∷ cs) = feed (weighStep w c) cs
 
--- a call's number in front, where the weigh book has one for it: reports have none
+-- a call's number in front, where it is forecast
 abbrev pub listed : Call → ℕ → List ℕ → List ℕ
-listed (move x) n ns = n ∷ ns
-listed (ask q room) n ns = ns
+listed c n ns = cond (weighing c .forecasts) (n ∷ ns) ns
 
 -- the numbers that it gives to a list's transfers, fed every one
 unfoldable pub forecast : WeighBook → List Call → List ℕ

@@ -1,5 +1,6 @@
 // The book: a head by value, and a table of pieces that the caller lends. No call keeps anything between two calls.
 pub mod audit;
+pub mod balances;
 pub mod opening;
 
 // The head of a book.
@@ -20,6 +21,14 @@ pub struct Opened {
     pub head: Head,
 }
 
+// A transfer of weight from a vessel to another at a minute.
+pub struct Transfer {
+    pub source: u32,
+    pub destination: u32,
+    pub minute: u32,
+    pub weight: u32,
+}
+
 // What a transfer answers: how many pieces moved whole, how many were split, the weight born.
 #[repr(C)]
 pub struct Transferred {
@@ -28,6 +37,14 @@ pub struct Transferred {
     pub whole: u32,
     pub split: u32,
     pub born: u32,
+}
+
+// What a report is asked for: the weight by origin in a vessel; the weight in each vessel that was born at an origin from a minute to a
+// minute; the first of all vessels.
+pub enum Report {
+    Held(u32),
+    Spread(u32, u32, u32),
+    Whole,
 }
 
 // What a report answers.

@@ -1,11 +1,8 @@
 -- `audit::refusal_of` meets its contract: the three returns are check 1, no check, and check 4.
 -- Assumes nothing.
-use mir.Syntax.{w32}
-use mir.Val.{Fits}
-use native.Mathlib.Omega.{arith}
-use lib.ListN.{getD}
 use Rattle.table.proofs.Tests.{tests}
 use Rattle.book.specs.Memory.{bookChecks}
+use Rattle.book.proofs.BalanceLaws.{sized}
 use Rattle.book.proofs.Memory.{book-adds-up, book-off}
 use borrow.Author.Needs.{needs}
 use Rattle.book.proofs.audit.refusal_of.Statement.{statement}
@@ -15,10 +12,7 @@ returns : tie.Need-returns
 unfolding bookChecks
 returns c = (
   search tests,
-  record {
-    light = λ v. let g : Fits w32 (getD (c .before .before .args .head .balances) v 0) = search needs in omega (arith, g .fits);
-    tally = let g : Fits w32 (c .before .before .args .head .accepted) = search needs in omega (arith, g .fits);
-  },
+  sized (λ v. search needs) (search needs),
 )
 
 adds-up-requires : tie.Need-adds-up-requires
@@ -27,19 +21,13 @@ adds-up-requires c κs = search needs
 returns-2 : tie.Need-returns-2
 returns-2 c = (
   search (needs, book-adds-up),
-  record {
-    light = λ v. let g : Fits w32 (getD (c .before .before .before .before .args .head .balances) v 0) = search needs in omega (arith, g .fits);
-    tally = let g : Fits w32 (c .before .before .before .before .args .head .accepted) = search needs in omega (arith, g .fits);
-  },
+  sized (λ v. search needs) (search needs),
 )
 
 returns-3 : tie.Need-returns-3
 returns-3 c = (
   search (needs, book-off),
-  record {
-    light = λ v. let g : Fits w32 (getD (c .before .before .before .before .args .head .balances) v 0) = search needs in omega (arith, g .fits);
-    tally = let g : Fits w32 (c .before .before .before .before .args .head .accepted) = search needs in omega (arith, g .fits);
-  },
+  sized (λ v. search needs) (search needs),
 )
 
 pub refusal-of-spec : {M : Type 1} → statement M

@@ -1,0 +1,78 @@
+-- Laws of the head: the tests by which a book adds up, what each says where it holds and that a sound piece and equal lists pass them;
+-- and opening by its number.
+-- Assumes nothing.
+use mathlib.Core.Path.{_≡_, refl, _∙_}
+use mathlib.Core.Bool.{Bool, true, false, _&&_}
+use mathlib.Core.List.{List, [], _∷_}
+use Prim.Native.Nat.{ℕ, zero, suc}
+use lib.Dec.{eqb}
+use borrow.Author.Tests.{le-leb, leb-true, lt-ltb, ltb-true, eq-eqb, eqb-true}
+use Rattle.table.specs.declared.Piece.{Piece}
+use Rattle.table.specs.Pieces.{All, done, also}
+use Rattle.refusal.specs.Numbers.{first}
+use Rattle.book.specs.declared.Head.{Head}
+use Rattle.book.specs.declared.Opened.{Opened}
+use Rattle.book.specs.Head.{allOf, pieceTests, fits, allFit, same, emptyHead, notOpened, openChecks, opens, opening}
+use Rattle.book.proofs.Sound.{SoundPiece}
+
+-- each test of the list holds
+abbrev pub Hold : List Bool → Type 0
+Hold [] = Unit
+Hold (t ∷ ts) = (t ≡ true) × Hold ts
+
+pub both : (a b : Bool) → (a && b) ≡ true → (a ≡ true) × (b ≡ true)
+both true b e = (refl, e)
+both false b e = (e, cc)
+
+pub hold : (ts : List Bool) → allOf ts ≡ true → Hold ts
+hold [] e = tt
+hold (t ∷ ts) e = let p = both t (allOf ts) e in (p .0, hold ts (p .1))
+
+-- equal lists
+pub same-refl : (l : List ℕ) → same l l ≡ true
+unfolding same
+same-refl [] = refl
+same-refl (x ∷ xs) = rw (eq-eqb x x refl, same-refl xs)
+
+pub same-eq : (l m : List ℕ) → same l m ≡ true → l ≡ m
+unfolding same
+same-eq [] [] e = refl
+same-eq [] (y ∷ ys) e = cc
+same-eq (x ∷ xs) [] e = cc
+same-eq (x ∷ xs) (y ∷ ys) e = let u = both (eqb x y) (same xs ys) e in rw (eqb-true x y (u .0), same-eq xs ys (u .1))
+
+-- pieces that fit are sound
+module _ (size last : ℕ) where
+  pub sound-fit : (p : Piece) → SoundPiece size last p → fits size last p ≡ true
+  sound-fit p h = rw (lt-ltb _ _ (h .holder-in), lt-ltb _ _ (h .origin-in), le-leb _ _ (h .past), le-leb 1 _ (h .weighty))
+
+  by-name : (p : Piece) → Hold (pieceTests size last p) → SoundPiece size last p
+  by-name p (holder, (origin, (birth, (weight, end)))) =
+      record { holder-in = ltb-true _ _ holder; origin-in = ltb-true _ _ origin; past = leb-true _ _ birth; weighty = leb-true 1 _ weight }
+
+  pub fit-sound : (p : Piece) → fits size last p ≡ true → SoundPiece size last p
+  fit-sound p e = by-name p (hold (pieceTests size last p) e)
+
+  pub all-fit : {ps : List Piece} → All (SoundPiece size last) ps → allFit size last ps ≡ true
+  unfolding allFit
+  all-fit done = refl
+  all-fit (also {p = p} h x) = rw (sound-fit p h, all-fit x)
+
+  pub all-sound : (ps : List Piece) → allFit size last ps ≡ true → All (SoundPiece size last) ps
+  unfolding allFit
+  all-sound [] e = done
+  all-sound (p ∷ ps) e = let u = both (fits size last p) (allFit size last ps) e in also (fit-sound p (u .0)) (all-sound ps (u .1))
+
+-- opening, with the number of its checks in hand
+module _ (rule size n : ℕ) (z : Opened) (e : n ≡ first (openChecks rule size)) where
+  pub open-refused : (n ≡ 0 → ⊥) → z ≡ notOpened n → z ≡ opening rule size
+  unfolding opening
+  open-refused nz ez = ez ∙ rw (← e) (go n nz)
+    where
+      go : (n : ℕ) → (n ≡ 0 → ⊥) → notOpened n ≡ opens rule size n
+      go zero nz = absurd (nz refl)
+      go (suc n) nz = refl
+
+  pub open-accepted : n ≡ 0 → (h : Head) → h ≡ emptyHead rule size → record { number = 0; head = h } ≡ opening rule size
+  unfolding opening
+  open-accepted q h eh = rw (← e, q, eh)
