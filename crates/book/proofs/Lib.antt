@@ -9,3 +9,5 @@ pub mod Drained
 pub mod After
 pub mod Lists
 pub mod Marked
+pub mod InWords
+pub mod Edges

@@ -1,0 +1,103 @@
+-- Every test and check of a book at its edge, in one table: of each clause of "adds up" a book that only it refuses, and of each number
+-- the last that passes and the first that does not. A definition that is altered together with code and proofs fails here.
+-- Assumes nothing.
+use mathlib.Core.Path.{_≡_, refl}
+use mathlib.Core.Bool.{Bool, true, false, _&&_}
+use mathlib.Core.List.{List, [], _∷_, _++_, map}
+use Prim.Native.Nat.{ℕ, _<_, _-_}
+use native.Mathlib.Omega.{arith}
+use lib.Dec.{leb}
+use lib.ListN.{length, replicate}
+use borrow.Author.Tests.{lt-leb}
+use Rattle.table.specs.Table.{mostPlaces, piecesOf, placesOf}
+use Rattle.refusal.specs.Numbers.{TOP, first}
+use Rattle.book.specs.declared.Head.{Head}
+use Rattle.book.specs.declared.Transfer.{Transfer}
+use Rattle.book.specs.Head.{lastRule, mostVessels, tab, balancesOf, allFit, same, addsUp, opening}
+use Rattle.book.specs.Transfer.{Standing, transferOf, transferChecks}
+use Rattle.book.specs.Memory.{bookChecks}
+
+-- a test, and what it is to say
+pub record Edge : Type 0 where
+  pub found : ℕ
+  pub wanted : ℕ
+
+-- "book off", 4, or 0, of a head with these numbers and balances, and a table
+abbrev book : ℕ → ℕ → ℕ → ℕ → ℕ → List ℕ → List ℕ → ℕ
+book rule vessels pieces last accepted balances t =
+    first (bookChecks (record { rule = rule; vessels = vessels; pieces = pieces; last = last; accepted = accepted; balances = balances ++ replicate (mostVessels - length balances) 0 }) t)
+
+-- the number of a transfer where three vessels hold 5 each, the last minute is 7 and so many were accepted
+abbrev move : ℕ → ℕ → ℕ → ℕ → ℕ → ℕ
+move accepted s d t q = first (transferChecks (record { vessels = 3; balance = λ v. 5; last = 7; accepted = accepted }) (transferOf s d t q))
+
+abbrev _gives_ : ℕ → ℕ → Edge
+n gives m = record { found = n; wanted = m }
+
+infix 70 _gives_
+unfoldable pub edges : List Edge
+edges =
+    -- opening: rule and number of vessels
+    opening 3 1 .number gives 0
+    ∷ opening 4 1 .number gives 2
+    ∷ opening 0 0 .number gives 3
+    ∷ opening 0 64 .number gives 0
+    ∷ opening 0 65 .number gives 3
+    ∷ opening 4 0 .number gives 2
+    -- a book that adds up: vessel 1 of 2 holds 7 grams, born at 0 in minute 5
+    ∷ book 3 2 1 5 1 (0 ∷ 7 ∷ []) (1 ∷ 0 ∷ 5 ∷ 7 ∷ []) gives 0
+    -- the rule
+    ∷ book 4 2 1 5 1 (0 ∷ 7 ∷ []) (1 ∷ 0 ∷ 5 ∷ 7 ∷ []) gives 4
+    -- the number of vessels
+    ∷ book 0 0 0 0 0 [] (9 ∷ 9 ∷ 9 ∷ 9 ∷ []) gives 4
+    ∷ book 0 1 0 0 0 [] (9 ∷ 9 ∷ 9 ∷ 9 ∷ []) gives 0
+    ∷ book 0 64 0 0 0 [] (9 ∷ 9 ∷ 9 ∷ 9 ∷ []) gives 0
+    ∷ book 0 65 0 0 0 [] (9 ∷ 9 ∷ 9 ∷ 9 ∷ []) gives 4
+    -- a table of fewer than 4 numbers, before all else
+    ∷ book 4 0 0 0 0 [] (9 ∷ 9 ∷ 9 ∷ []) gives 1
+    -- pieces and accepted transfers
+    ∷ book 3 2 1 5 0 (0 ∷ 7 ∷ []) (1 ∷ 0 ∷ 5 ∷ 7 ∷ []) gives 4
+    ∷ book 3 2 1 5 2 (0 ∷ 7 ∷ []) (1 ∷ 0 ∷ 5 ∷ 7 ∷ []) gives 0
+    -- a holder, an origin, a birth minute, a weight
+    ∷ book 3 2 1 5 1 [] (2 ∷ 0 ∷ 5 ∷ 7 ∷ []) gives 4
+    ∷ book 3 2 1 5 1 (0 ∷ 7 ∷ []) (1 ∷ 2 ∷ 5 ∷ 7 ∷ []) gives 4
+    ∷ book 3 2 1 5 1 (0 ∷ 7 ∷ []) (1 ∷ 1 ∷ 5 ∷ 7 ∷ []) gives 0
+    ∷ book 3 2 1 4 1 (0 ∷ 7 ∷ []) (1 ∷ 0 ∷ 5 ∷ 7 ∷ []) gives 4
+    ∷ book 3 2 1 5 1 [] (1 ∷ 0 ∷ 5 ∷ 0 ∷ []) gives 4
+    -- a balance below V, one that wraps, one from V on
+    ∷ book 3 2 1 5 1 (0 ∷ 8 ∷ []) (1 ∷ 0 ∷ 5 ∷ 7 ∷ []) gives 4
+    ∷ book 3 2 2 5 2 [] (1 ∷ 0 ∷ 5 ∷ TOP ∷ 1 ∷ 0 ∷ 5 ∷ 1 ∷ []) gives 4
+    ∷ book 3 2 1 5 1 (0 ∷ 7 ∷ 1 ∷ []) (1 ∷ 0 ∷ 5 ∷ 7 ∷ []) gives 4
+    -- checks 5 to 10 of a transfer, and their order
+    ∷ move 0 2 1 7 1 gives 0
+    ∷ move 0 3 1 7 1 gives 5
+    ∷ move 0 1 2 7 1 gives 0
+    ∷ move 0 1 3 7 1 gives 5
+    ∷ move 0 3 3 7 0 gives 5
+    ∷ move 0 2 2 7 1 gives 6
+    ∷ move 0 2 2 7 0 gives 6
+    ∷ move 0 2 1 7 0 gives 7
+    ∷ move 0 2 1 6 0 gives 7
+    ∷ move 0 2 1 6 1 gives 8
+    ∷ move 0 2 1 6 TOP gives 8
+    ∷ move 0 2 1 7 (TOP - 5) gives 0
+    ∷ move 0 2 1 7 (TOP - 4) gives 9
+    ∷ move TOP 2 1 7 (TOP - 4) gives 9
+    ∷ move (TOP - 1) 2 1 7 1 gives 0
+    ∷ move TOP 2 1 7 1 gives 10
+    ∷ []
+
+pub at-the-edge : map (λ e. e .found) edges ≡ map (λ e. e .wanted) edges
+unfolding edges opening bookChecks addsUp allFit same balancesOf tab placesOf piecesOf transferChecks
+at-the-edge = refl
+
+-- More pieces than a table ever counts places: no computed case reaches it.
+pub too-many : (h : Head) (t : List ℕ) → mostPlaces < h .pieces → addsUp h t ≡ false
+unfolding addsUp placesOf
+too-many h t e = rw (lt-leb (h .pieces) (placesOf t) (omega arith)) (go (leb (h .rule) lastRule) (leb 1 (h .vessels)) (leb (h .vessels) mostVessels))
+  where
+    go : (a b c : Bool) → (a && (b && (c && false))) ≡ false
+    go true true true = refl
+    go true true false = refl
+    go true false c = refl
+    go false b c = refl
