@@ -4,18 +4,18 @@
 use mathlib.Core.Path.{_≡_, refl, sym, ap, _∙_}
 use mathlib.Core.Bool.{Bool, true, false, cond}
 use mathlib.Core.List.{List, [], _∷_, _++_, append-assoc, append-nil}
-use Prim.Native.Nat.{ℕ, suc, _+_, _-_, _*_, _≤_, _<_}
+use Prim.Native.Nat.{ℕ, suc, _+_, _*_, _≤_, _<_}
 use native.Mathlib.Numerals.{add-one}
 use native.Mathlib.Omega.{arith}
 use lib.Dec.{eqb}
 use lib.ListN.{length, getD, drop, drop-of-length-le, length-append}
-use lib.Seq.{drop-cons, drop-drop, drop-set-lt, paste, paste-zero, paste-suc, length-paste}
+use lib.Seq.{drop-cons, drop-set-lt, paste, paste-zero, paste-suc, length-paste}
 use borrow.Author.Tests.{ne-eqb}
 use Rattle.table.specs.declared.Piece.{Piece}
 use Rattle.table.specs.Pieces.{noPiece, All, done, also}
 use Rattle.table.specs.Table.{piecesOf, lay, over, pieceIn, putIn}
 use Rattle.table.specs.Closing.{VACANT, Present, stay, settled, Settling, Closes}
-use Rattle.table.proofs.Table.{length-pieces, pieces-over, rest-over, pieces-take, formed, put-pieces, put-behind, put-more, put-same}
+use Rattle.table.proofs.Table.{length-pieces, pieces-over, rest-over, pieces-take, formed, same-behind, put-pieces, put-behind, put-more, put-same}
 
 pub stay-append : (xs ys : List Piece) → stay (xs ++ ys) ≡ stay xs ++ stay ys
 unfolding stay
@@ -139,8 +139,5 @@ module _ (n gone g j : ℕ) (t t′ l : List ℕ) (asked : Settling n gone g t l
   pub settle-table : (t″ : List ℕ) → t″ ≡ over (j + g) (piecesOf j t′ ++ piecesOf g l) t′ → t″ ≡ lay (settled n t g l) t
   settle-table t″ e =
       let stayed : j ≡ length (stay (piecesOf n t)) = sym (length-pieces j t′) ∙ ap length (closes .stands) in
-      let more : ℕ = 4 * (j + g) - 4 * n in
-      let size : 4 * n + more ≡ 4 * (j + g) = omega (arith, asked .vacant, asked .filled) in
-      let behind : drop (4 * (j + g)) t′ ≡ drop (4 * (j + g)) t =
-      rw (← size) (sym (drop-drop more (4 * n) t′) ∙ ap (drop more) (closes .behind) ∙ drop-drop more (4 * n) t) in
-      e ∙ rw (pieces, behind, settle-count)
+      let more : n ≤ j + g = omega (arith, asked .vacant, asked .filled) in
+      e ∙ rw (pieces, same-behind n (j + g) t t′ more (closes .behind), settle-count)
