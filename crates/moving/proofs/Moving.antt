@@ -56,9 +56,9 @@ by-next f a h c ks = go (ltb c (length ks)) refl
     go true e = ap f (drop-cons ks c 0 (ltb-true _ _ e)) ∙ h _ _
     go false e = ap f (drop-of-length-le ks {i = c} (ltb-false _ _ e))
 
-module _ (n places rule : ℕ) (m : Move) (keys₀ spare t l : List ℕ) (ready : Ready n places m t keys₀ spare l)
-    (o : Order) (keys : List ℕ) (ordered : Ordered n rule (m .source) o t keys)
-    (r : Plan) (plan : r ≡ planFrom 0 (inOrder o keys) (m .weight) (piecesOf n t)) where
+module _ {n places rule : ℕ} {m : Move} {keys₀ spare t l : List ℕ} (ready : Ready n places m t keys₀ spare l)
+    {o : Order} {keys : List ℕ} (ordered : Ordered n rule (m .source) o t keys)
+    {r : Plan} (plan : r ≡ planFrom 0 (inOrder o keys) (m .weight) (piecesOf n t)) where
   abbrev ps : List Piece
   ps = piecesOf n t
 
@@ -97,7 +97,7 @@ module _ (n places rule : ℕ) (m : Move) (keys₀ spare t l : List ℕ) (ready 
       go false e true f = let z : r .left ≢ 0 = eqb-false _ _ e in let g : places ≤ n = leb-true _ _ f in lt-ltb places (n + min 1 (r .left)) (omega arith)
       go false e false f = let g : n < places = leb-false _ _ f in le-ltb places (n + min 1 (r .left)) (omega arith)
 
-  module _ (b : Bool) (is : b ≡ cond (eqb (r .left) 0) false (leb places n)) where
+  module _ {b : Bool} (is : b ≡ cond (eqb (r .left) 0) false (leb places n)) where
     pub move-refused : b ≡ true → Moves n places rule m t t (refused n)
     unfolding applied tableLeft
     move-refused e = record { answer = rw (due ∙ sym is ∙ e); table = rw (due ∙ sym is ∙ e) }
@@ -121,10 +121,10 @@ module _ (n places rule : ℕ) (m : Move) (keys₀ spare t l : List ℕ) (ready 
             record { rest = rw by-plan at rest; fits = rw by-plan at f },
           )
 
-      pub move-applied : (t′ : List ℕ) (a : Applied) → Applies n m o r keys t t′ a
+      pub move-applied : {t′ : List ℕ} {a : Applied} → Applies n m o r keys t t′ a
           → Moves n places rule m t t′ a
       unfolding applied tableLeft
-      move-applied t′ a done =
+      move-applied done =
           let v = rw length-order at (by-next (splits (r .left)) (min 1 (r .left)) (λ k ks. refl) (r .whole) ks) in
           let w = rw length-order at (by-next (lacking (r .left)) 0 (λ k ks. refl) (r .whole) ks) in
           record {
