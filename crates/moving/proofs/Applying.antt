@@ -1,50 +1,47 @@
--- A plan is applied: what lifting, the remainder, closing up and appending leave is what is handed over. Each step keeps the n places
--- and what lies behind them, until the last.
+-- A plan is applied: what is lifted of the pieces and what stays of them, settled, is what is handed over. Lifting keeps the n places
+-- and what lies behind them.
 -- Assumes nothing.
-use mathlib.Core.Path.{_≡_, refl, sym, ap, _∙_}
-use mathlib.Core.List.{List, [], _∷_, _++_, append-assoc, map}
-use Prim.Native.Nat.{ℕ, _+_, _-_, _*_}
+use mathlib.Core.Path.{_≡_, refl, ap, _∙_}
+use mathlib.Core.List.{List, [], _∷_, append-assoc, map-append}
+use Prim.Native.Nat.{ℕ, _+_, _*_, _≤_}
 use native.Mathlib.Omega.{arith}
-use lib.ListN.{length, take, drop, length-append, length-set}
-use lib.Seq.{drop-drop}
+use lib.ListN.{length, drop, length-append, length-set}
 use Rattle.table.specs.declared.Piece.{Piece}
-use Rattle.table.specs.Table.{piecesOf, over}
-use Rattle.table.proofs.Table.{length-pieces, pieces-over, rest-over}
+use Rattle.table.specs.Table.{piecesOf, lay}
+use Rattle.table.specs.Closing.{stay, settled, Settling}
+use Rattle.table.proofs.Table.{length-pieces, pieces-over, rest-over, same-behind}
+use Rattle.picking.specs.declared.Move.{Move}
 use Rattle.picking.specs.declared.selection.Order.{Order}
 use Rattle.picking.specs.declared.plan.Plan.{Plan}
-use Rattle.picking.specs.Plan.{placeOf, inOrder, stay, markAt, marked, reduced, outcome}
+use Rattle.picking.specs.Taking.{handed}
+use Rattle.picking.specs.Plan.{placeOf, vacateAt, vacateAll, reduced}
 use Rattle.moving.specs.declared.Applied.{Applied}
-use Rattle.moving.specs.Applied.{says}
-use Rattle.moving.specs.Parts.{handedOver, Lifts, Follows, Gathers, Closes, Applicable, Applies}
+use Rattle.moving.specs.Parts.{Room, gone, next, Lifts, Follows, planTaken, Gathers, planAnswer, Applicable, Applies}
 
-length-marked : (ks : List ℕ) (ps : List Piece) → length (marked ks ps) ≡ length ps
-unfolding marked
-length-marked [] ps = refl
-length-marked (k ∷ ks) ps = length-marked ks (markAt (placeOf k) ps) ∙ length-set ps (placeOf k) _
+length-vacateAll : (ks : List ℕ) (ps : List Piece) → length (vacateAll ks ps) ≡ length ps
+unfolding vacateAll
+length-vacateAll [] ps = refl
+length-vacateAll (k ∷ ks) ps = length-vacateAll ks (vacateAt (placeOf k) ps) ∙ length-set ps (placeOf k) _
 
 length-reduced : (w : ℕ) (ks : List ℕ) (ps : List Piece) → length (reduced w ks ps) ≡ length ps
 length-reduced w [] ps = refl
 length-reduced w (k ∷ ks) ps = length-set ps (placeOf k) _
 
-map-append : (f : Piece → Piece) (xs ys : List Piece) → map f (xs ++ ys) ≡ map f xs ++ map f ys
-map-append f [] ys = refl
-map-append f (x ∷ xs) ys = ap (λ (l : List Piece). f x ∷ l) (map-append f xs ys)
+module _ (n : ℕ) (m : Move) (o : Order) (r : Plan) (keys t : List ℕ) where
+  abbrev vacant : List Piece
+  vacant = vacateAll (gone (r .whole) o keys) (piecesOf n t)
 
-module _ (n s d u : ℕ) (o : Order) (r : Plan) (keys t : List ℕ) where
-  abbrev gone : List ℕ
-  gone = take (r .whole) (inOrder o keys)
+  abbrev left : List Piece
+  left = reduced (r .left) (next (r .whole) o keys) vacant
 
-  abbrev next : List ℕ
-  next = drop (r .whole) (inOrder o keys)
-
-  long : length (marked gone (piecesOf n t)) ≡ n
-  long = length-marked gone (piecesOf n t) ∙ length-pieces n t
+  long : length vacant ≡ n
+  long = length-vacateAll (gone (r .whole) o keys) (piecesOf n t) ∙ length-pieces n t
 
   -- lifting, and the remainder
-  pub gathers : (t₁ l₁ t₂ l₂ : List ℕ) (g : ℕ) → Lifts n (r .whole) d o keys t t₁ l₁ → Follows n s d u o r keys t₁ l₁ t₂ l₂ g
-      → Gathers n s d u o r keys t t₂ l₂ g
+  pub gathers : (t₁ l₁ t₂ l₂ : List ℕ) (g : ℕ) → Lifts n (r .whole) m o keys t t₁ l₁ → Follows n m o r keys t₁ l₁ t₂ l₂ g
+      → Gathers n m o r keys t t₂ l₂ g
   gathers t₁ l₁ t₂ l₂ g lifts follows =
-      let ps : piecesOf n t₁ ≡ marked gone (piecesOf n t) = ap (piecesOf n) (lifts .stands) ∙ pieces-over n _ (drop (4 * n) t) long in
+      let ps : piecesOf n t₁ ≡ vacant = ap (piecesOf n) (lifts .stands) ∙ pieces-over n _ (drop (4 * n) t) long in
       let rs : drop (4 * n) t₁ ≡ drop (4 * n) t = ap (drop (4 * n)) (lifts .stands) ∙ rest-over n _ (drop (4 * n) t) long in
       record {
         stands = follows .stands ∙ rw (ps, rs);
@@ -53,33 +50,38 @@ module _ (n s d u : ℕ) (o : Order) (r : Plan) (keys t : List ℕ) where
         most = follows .most;
       }
 
-  module _ (can : Applicable n s d u o r keys t) (t₂ l₂ : List ℕ) (g : ℕ) (gathered : Gathers n s d u o r keys t t₂ l₂ g) where
-    abbrev result : List Piece
-    result = handedOver s d u (outcome (inOrder o keys) (piecesOf n t) r)
+  -- settling
+  module _ (can : Applicable n m o r keys t) (t₂ l₂ : List ℕ) (g : ℕ) (gathered : Gathers n m o r keys t t₂ l₂ g) where
+    long₂ : length left ≡ n
+    long₂ = length-reduced (r .left) (next (r .whole) o keys) vacant ∙ long
 
-    long₂ : length (reduced (r .left) next (marked gone (piecesOf n t))) ≡ n
-    long₂ = length-reduced (r .left) next (marked gone (piecesOf n t)) ∙ long
+    stands : piecesOf n t₂ ≡ left
+    stands = ap (piecesOf n) (gathered .stands) ∙ pieces-over n _ (drop (4 * n) t) long₂
 
-    pieces₂ : piecesOf n t₂ ≡ reduced (r .left) next (marked gone (piecesOf n t))
-    pieces₂ = ap (piecesOf n) (gathered .stands) ∙ pieces-over n _ (drop (4 * n) t) long₂
+    vacancies : length (stay (piecesOf n t₂)) + r .whole ≡ n
+    vacancies = rw stands (can .rest)
 
-    pub apply-gaps : length (stay (piecesOf n t₂)) + r .whole ≡ n
-    apply-gaps = rw pieces₂ (can .rest)
+    result : settled n t₂ g l₂ ≡ handed m (planTaken n o r keys t)
+    result = rw (stands, gathered .goes)
 
-    module _ (t₃ : List ℕ) (j : ℕ) (closes : Closes n t₂ t₃ j) where
-      all : piecesOf j t₃ ++ piecesOf g l₂ ≡ result
-      all = rw (closes .stands, pieces₂, gathered .goes)
+    pub apply-settling : (l : List ℕ) → Room n (r .whole) o keys t l → length t₂ ≡ length t → length l₂ ≡ length l → Settling n (r .whole) g t₂ l₂
+    apply-settling l room et el = record {
+      places = room .places;
+      pieces = omega (arith, room .pieces);
+      vacant = vacancies;
+      filled = gathered .least;
+      fits = rw (result, et) (can .fits);
+      lifted = omega (arith, gathered .most, room .above);
+    }
 
-      pub apply-count : j + g ≡ length result
-      apply-count = let a : length (piecesOf j t₃ ++ piecesOf g l₂) ≡ j + g = simp (length-append, length-pieces) in sym a ∙ ap length all
-
-      pub apply-end : (t₄ : List ℕ) → t₄ ≡ over (j + g) (piecesOf j t₃ ++ piecesOf g l₂) t₃ → (a : Applied) → a ≡ says o r (j + g)
-          → Applies n s d u o r keys t t₄ a
-      apply-end t₄ e a ea =
-          let rest : j ≡ length (stay (piecesOf n t₂)) = sym (length-pieces j t₃) ∙ ap length (closes .stands) in
-          let more : ℕ = 4 * (j + g) - 4 * n in
-          let sz : 4 * n + more ≡ 4 * (j + g) = omega (arith, apply-gaps) in
-          let behind : drop (4 * n) t₃ ≡ drop (4 * n) t = closes .behind ∙ ap (drop (4 * n)) (gathered .stands) ∙ rest-over n _ (drop (4 * n) t) long₂ in
-          let after : drop (4 * (j + g)) t₃ ≡ drop (4 * (j + g)) t =
-          rw (← sz) (sym (drop-drop more (4 * n) t₃) ∙ ap (drop more) behind ∙ drop-drop more (4 * n) t) in
-          record { stands = e ∙ rw (all, after, apply-count); answers = ea ∙ rw apply-count }
+    pub apply-end : (t₃ : List ℕ) (count : ℕ) (a : Applied) → t₃ ≡ lay (settled n t₂ g l₂) t₂ → count ≡ length (settled n t₂ g l₂)
+        → a ≡ planAnswer o r count → Applies n m o r keys t t₃ a
+    apply-end t₃ count a et ec ea =
+        let total : ℕ = length (handed m (planTaken n o r keys t)) in
+        let kept : drop (4 * n) t₂ ≡ drop (4 * n) t = ap (drop (4 * n)) (gathered .stands) ∙ rest-over n _ (drop (4 * n) t) long₂ in
+        let sum : length (settled n t₂ g l₂) ≡ length (stay (piecesOf n t₂)) + g = simp (length-append, length-pieces) in
+        let size : n ≤ total = omega (arith, vacancies, gathered .least, ap length result) in
+        record {
+          stands = et ∙ rw (result, same-behind n total t t₂ size kept);
+          answers = ea ∙ ap (planAnswer o r) (ec ∙ ap length result);
+        }

@@ -4,7 +4,7 @@
 use mathlib.Core.Path.{_≡_, refl, sym, ap, _∙_}
 use mathlib.Core.Logic.{_≢_}
 use mathlib.Core.Bool.{Bool, true, false, cond}
-use mathlib.Core.List.{List, [], _∷_, map}
+use mathlib.Core.List.{List, [], _∷_}
 use Prim.Native.Nat.{ℕ, suc, _+_, _-_, _*_, _≤_, _<_, min}
 use native.Mathlib.Omega.{arith}
 use lib.Dec.{leb, ltb, eqb}
@@ -12,15 +12,15 @@ use lib.ListN.{length, drop, drop-of-length-le}
 use lib.Seq.{drop-cons}
 use borrow.Author.Tests.{leb-true, leb-false, ltb-true, ltb-false, eqb-true, eqb-false, lt-ltb, le-ltb}
 use Rattle.table.specs.declared.Piece.{Piece}
-use Rattle.table.specs.Table.{piecesOf, lay}
+use Rattle.table.specs.Table.{mostPlaces, piecesOf, lay}
 use Rattle.table.proofs.Table.{length-pieces}
 use Rattle.picking.specs.declared.selection.Order.{Order}
 use Rattle.picking.specs.declared.plan.Plan.{Plan}
 use Rattle.moving.specs.declared.Applied.{Applied}
 use Rattle.picking.specs.declared.Move.{Move}
 use Rattle.picking.specs.Taking.{Taken, handed, taken}
-use Rattle.picking.specs.Plan.{atKey, inOrder, halt, planFrom, splits, lacking, outcome, planned}
-use Rattle.moving.specs.Applied.{full, refused, accepted, applied, leaves, Ready, Moves}
+use Rattle.picking.specs.Plan.{atKey, inOrder, halt, planFrom, splits, lacking, takenBy, planned}
+use Rattle.moving.specs.Applied.{full, refused, accepted, applied, tableLeft, Ready, Moves}
 use Rattle.picking.specs.Ordering.{Ordered}
 use Rattle.moving.specs.Parts.{Room, Applicable, Applies}
 use Rattle.picking.proofs.Keys.{length-inOrder}
@@ -56,13 +56,9 @@ by-next f a h c ks = go (ltb c (length ks)) refl
     go true e = ap f (drop-cons ks c 0 (ltb-true _ _ e)) ∙ h _ _
     go false e = ap f (drop-of-length-le ks {i = c} (ltb-false _ _ e))
 
-length-map : (f : Piece → Piece) (ps : List Piece) → length (map f ps) ≡ length ps
-length-map f [] = refl
-length-map f (p ∷ ps) = ap suc (length-map f ps)
-
-module _ (n places rule : ℕ) (x : Move) (keys₀ spare t l : List ℕ) (ready : Ready n places (x .source) t keys₀ spare l)
-    (o : Order) (keys : List ℕ) (ordered : Ordered n rule (x .source) o t keys)
-    (r : Plan) (plan : r ≡ planFrom 0 (inOrder o keys) (x .weight) (piecesOf n t)) where
+module _ {n places rule : ℕ} {m : Move} {keys₀ spare t l : List ℕ} (ready : Ready n places m t keys₀ spare l)
+    {o : Order} {keys : List ℕ} (ordered : Ordered n rule (m .source) o t keys)
+    {r : Plan} (plan : r ≡ planFrom 0 (inOrder o keys) (m .weight) (piecesOf n t)) where
   abbrev ps : List Piece
   ps = piecesOf n t
 
@@ -70,30 +66,30 @@ module _ (n places rule : ℕ) (x : Move) (keys₀ spare t l : List ℕ) (ready 
   ks = inOrder o keys
 
   abbrev taking : Taken
-  taking = taken rule x ps
+  taking = taken rule m ps
 
   length-order : length ks ≡ o .count
   length-order = length-inOrder o keys (omega (arith, ordered .most, ready .pieces, ready .most)) (ordered .memory)
 
-  by-plan : taking ≡ outcome ks ps r
+  by-plan : taking ≡ takenBy ks ps r
   unfolding planned
   by-plan =
-      let h : length ps ≤ 4096 = rw length-pieces (omega (arith, ready .pieces, ready .most)) in
-      taken-planned rule x ps (ready .unlike) h (ready .unmarked) ∙ rw (plan, ordered .order)
+      let h : length ps ≤ mostPlaces = rw length-pieces (omega (arith, ready .pieces, ready .most)) in
+      taken-planned rule m ps (ready .source) h (ready .present) ∙ rw (plan, ordered .order)
 
   whole-most : r .whole ≤ o .count
-  whole-most = rw plan (omega (arith, length-order, plan-most ks 0 (x .weight) ps))
+  whole-most = rw plan (omega (arith, length-order, plan-most ks 0 (m .weight) ps))
 
   rest : length (taking .rest) + taking .whole ≡ n
-  rest = let l = taken-law rule x ps in omega (arith, l .fair .longer, l .counted, length-pieces n t)
+  rest = let l = taken-law rule m ps in omega (arith, l .fair .longer, l .counted, length-pieces n t)
 
-  size : length (handed x taking) ≡ n + min 1 (r .left)
+  size : length (handed m taking) ≡ n + min 1 (r .left)
   size =
       let e : taking .split + min 1 (taking .born) ≡ min 1 (r .left) = rw by-plan (one-of (r .left) (drop (r .whole) ks)) in
-      omega (arith, handed-length x ps taking (taken-law rule x ps .fair), length-pieces n t)
+      omega (arith, handed-length m ps taking (taken-law rule m ps .fair), length-pieces n t)
 
   -- a place more is wanted where something is left after the whole ones
-  due : full places x taking ≡ cond (eqb (r .left) 0) false (leb places n)
+  due : full places m taking ≡ cond (eqb (r .left) 0) false (leb places n)
   due = rw size (go (eqb (r .left) 0) refl (leb places n) refl)
     where
       go : (b : Bool) → eqb (r .left) 0 ≡ b → (c : Bool) → leb places n ≡ c → ltb places (n + min 1 (r .left)) ≡ cond b false c
@@ -101,19 +97,19 @@ module _ (n places rule : ℕ) (x : Move) (keys₀ spare t l : List ℕ) (ready 
       go false e true f = let z : r .left ≢ 0 = eqb-false _ _ e in let g : places ≤ n = leb-true _ _ f in lt-ltb places (n + min 1 (r .left)) (omega arith)
       go false e false f = let g : n < places = leb-false _ _ f in le-ltb places (n + min 1 (r .left)) (omega arith)
 
-  module _ (b : Bool) (is : b ≡ cond (eqb (r .left) 0) false (leb places n)) where
-    pub move-refused : b ≡ true → Moves n places rule x t t (refused n)
-    unfolding applied leaves
+  module _ {b : Bool} (is : b ≡ cond (eqb (r .left) 0) false (leb places n)) where
+    pub move-refused : b ≡ true → Moves n places rule m t t (refused n)
+    unfolding applied tableLeft
     move-refused e = record { answer = rw (due ∙ sym is ∙ e); table = rw (due ∙ sym is ∙ e) }
 
     module _ (e : b ≡ false) where
-      free : full places x taking ≡ false
+      free : full places m taking ≡ false
       free = due ∙ sym is ∙ e
 
-      pub move-ready : Room n (r .whole) o keys t l × Applicable n (x .source) (x .destination) (x .birth) o r keys t
+      pub move-ready : Room n (r .whole) o keys t l × Applicable n m o r keys t
       move-ready =
-          let h : length (handed x taking) ≤ places = ltb-false _ _ free in
-          let f : 4 * length (handed x taking) ≤ length t = omega (arith, ready .room) in (
+          let h : length (handed m taking) ≤ places = ltb-false _ _ free in
+          let f : 4 * length (handed m taking) ≤ length t = omega (arith, ready .room) in (
             record {
               places = omega (arith, ready .pieces, ready .most);
               pieces = omega (arith, ready .pieces, ready .room);
@@ -125,13 +121,13 @@ module _ (n places rule : ℕ) (x : Move) (keys₀ spare t l : List ℕ) (ready 
             record { rest = rw by-plan at rest; fits = rw by-plan at f },
           )
 
-      pub move-applied : (t′ : List ℕ) (a : Applied) → Applies n (x .source) (x .destination) (x .birth) o r keys t t′ a
-          → Moves n places rule x t t′ a
-      unfolding applied leaves
-      move-applied t′ a done =
+      pub move-applied : {t′ : List ℕ} {a : Applied} → Applies n m o r keys t t′ a
+          → Moves n places rule m t t′ a
+      unfolding applied tableLeft
+      move-applied done =
           let v = rw length-order at (by-next (splits (r .left)) (min 1 (r .left)) (λ k ks. refl) (r .whole) ks) in
           let w = rw length-order at (by-next (lacking (r .left)) 0 (λ k ks. refl) (r .whole) ks) in
           record {
-            answer = done .answers ∙ rw (← v, ← w) (sym (rw free (ap (accepted x) by-plan)));
-            table = done .stands ∙ sym (rw free (ap (λ (z : Taken). lay (handed x z) t) by-plan));
+            answer = done .answers ∙ rw (← v, ← w) (sym (rw free (ap (accepted m) by-plan)));
+            table = done .stands ∙ sym (rw free (ap (λ (z : Taken). lay (handed m z) t) by-plan));
           }

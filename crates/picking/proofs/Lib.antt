@@ -2,7 +2,6 @@ pub mod Taking
 pub mod Handed
 pub mod Rules
 pub mod InTable
-pub mod Marks
 pub mod Picks
 pub mod Planned
 pub mod Keys

@@ -1,5 +1,5 @@
--- What is taken by plan is what a transfer takes, for every rule. In the plan a picked piece is marked and stays in its place; in `taken`
--- it leaves. So at each pick the pieces of `taken` are the unmarked ones of the plan, and the pick is the first key of the order
+-- What is taken by plan is what a transfer takes, for every rule. In the plan a picked piece leaves a vacant place; in `taken` those
+-- behind it close up at once. So at each pick the pieces of `taken` are those that stay in the plan, and the pick is the first key of the order
 -- (proofs/Picks.antt).
 -- Assumes nothing.
 use mathlib.Core.Path.{_≡_, refl, sym, ap, _∙_}
@@ -15,26 +15,28 @@ use lib.Seq.{getD-at, set-at, set-getD}
 use borrow.Author.Tests.{eqb-true, eqb-false, ne-eqb}
 use Rattle.table.specs.declared.Piece.{Piece}
 use Rattle.table.specs.Pieces.{noPiece, ofWeight, All}
+use Rattle.table.specs.Table.{mostPlaces}
+use Rattle.table.specs.Closing.{VACANT, vacated, Present, stay}
+use Rattle.table.proofs.ClosingUp.{stay-append, stay-all}
 use Rattle.sorting.proofs.Laws.{length-sort}
 use Rattle.picking.specs.declared.plan.Plan.{Plan}
 use Rattle.picking.specs.Selection.{Found, nothing, at, behind, against, select}
 use Rattle.picking.specs.declared.Move.{Move}
 use Rattle.picking.specs.Taking.{Taken, stop, oneWhole, takeFrom, takeFound, takeNext, takeUpTo, taken}
-use Rattle.picking.specs.Plan.{byBirth, backwards, keyOf, placeOf, atKey, keysOf, turned, orderOf, MARK, mark, stay, markAt, marked, picked, halt, planFrom, reduced, outcome, planned}
-use Rattle.picking.proofs.Marks.{stay-append, stay-all}
+use Rattle.picking.specs.Plan.{byBirth, backwards, keyOf, placeOf, atKey, keysOf, turned, orderOf, vacateAt, vacateAll, picked, halt, planFrom, reduced, takenBy, planned}
 use Rattle.picking.proofs.Picks.{prefers, rule-is, place-key, Headed, Picked, picks-first}
 
--- a selection, where only the unmarked are there
+-- a selection, where only the pieces that stay are there
 abbrev seen : Found → Found
 seen nothing = nothing
 seen (at b x a) = at (stay b) x (stay a)
 
-select-stay : (better : Piece → Piece → Bool) (s : ℕ) → s ≢ MARK → (ms : List Piece) → select better s (stay ms) ≡ seen (select better s ms)
+select-stay : (better : Piece → Piece → Bool) (s : ℕ) → s ≢ VACANT → (ms : List Piece) → select better s (stay ms) ≡ seen (select better s ms)
 unfolding stay
 select-stay better s apart [] = refl
-select-stay better s apart (p ∷ ms) = go (eqb (p .holder) MARK) refl (select-stay better s apart ms)
+select-stay better s apart (p ∷ ms) = go (eqb (p .holder) VACANT) refl (select-stay better s apart ms)
   where
-    here : (c : Bool) (f : Found) → eqb (p .holder) MARK ≡ false
+    here : (c : Bool) (f : Found) → eqb (p .holder) VACANT ≡ false
         → cond c (against better p (stay ms) (seen f)) (behind p (seen f)) ≡ seen (cond c (against better p ms f) (behind p f))
     here true nothing e = refl
     here true (at b x a) e = win (better p x)
@@ -45,13 +47,13 @@ select-stay better s apart (p ∷ ms) = go (eqb (p .holder) MARK) refl (select-s
     here false nothing e = refl
     here false (at b x a) e = rw e
 
-    skip : (f : Found) → eqb (p .holder) MARK ≡ true → seen f ≡ seen (behind p f)
+    skip : (f : Found) → eqb (p .holder) VACANT ≡ true → seen f ≡ seen (behind p f)
     skip nothing e = refl
     skip (at b x a) e = rw e
 
-    go : (t : Bool) → eqb (p .holder) MARK ≡ t → select better s (stay ms) ≡ seen (select better s ms)
+    go : (t : Bool) → eqb (p .holder) VACANT ≡ t → select better s (stay ms) ≡ seen (select better s ms)
         → select better s (cond t (stay ms) (p ∷ stay ms)) ≡ seen (select better s (p ∷ ms))
-    go true e i = rw (ne-eqb (p .holder) s (λ z. apart (sym z ∙ eqb-true (p .holder) MARK e))) (i ∙ skip (select better s ms) e)
+    go true e i = rw (ne-eqb (p .holder) s (λ z. apart (sym z ∙ eqb-true (p .holder) VACANT e))) (i ∙ skip (select better s ms) e)
     go false e i = rw i (here (eqb (p .holder) s) (select better s ms) e)
 
 -- The order is nothing where nothing is picked, else the pick's key and the order without it.
@@ -59,9 +61,9 @@ abbrev Starts : Bool → Bool → ℕ → List Piece → Found → Type 0
 Starts old back s ms nothing = orderOf old back s 0 ms ≡ []
 Starts old back s ms (at b x a) =
     (k : ℕ) × (ms ≡ b ++ (x ∷ a)) × (x .holder ≡ s) × (placeOf k ≡ length b)
-    × (orderOf old back s 0 ms ≡ k ∷ orderOf old back s 0 (b ++ (mark x ∷ a)))
+    × (orderOf old back s 0 ms ≡ k ∷ orderOf old back s 0 (b ++ (vacated x ∷ a)))
 
-starts : (old back : Bool) (s : ℕ) → s ≢ MARK → (ms : List Piece) → length ms ≤ 4096 → Starts old back s ms (select (prefers old back) s ms)
+starts : (old back : Bool) (s : ℕ) → s ≢ VACANT → (ms : List Piece) → length ms ≤ mostPlaces → Starts old back s ms (select (prefers old back) s ms)
 starts old back s apart ms h = go back (select (prefers old back) s ms) (picks-first old s apart back 0 ms (omega arith))
   where
     order : (back : Bool) (k : ℕ) (ks ts : List ℕ) → Headed back k ks ts → turned back ks ≡ k ∷ turned back ts
@@ -75,7 +77,7 @@ starts old back s apart ms h = go back (select (prefers old back) s ms) (picks-f
     go : (back : Bool) (f : Found) → Picked old s apart back 0 ms f → Starts old back s ms f
     go back nothing u = empty back _ u
     go back (at b x a) (g, hx, u) =
-        let l : length b < 4096 = omega (arith, ap length g, length-append b (x ∷ a)) in
+        let l : length b < mostPlaces = omega (arith, ap length g, length-append b (x ∷ a)) in
         let z : 0 + length b ≡ length b = omega arith in
         (keyOf old (0 + length b) x, g, hx, rw z (place-key old (length b) x l), order back _ _ _ u)
 
@@ -97,37 +99,37 @@ plan-suc (k ∷ ks) c want ps = go (eqb want 0) (leb w want) _ _ (plan-suc ks (s
     go false true r q e = e
     go false false r q e = refl
 
-weight-marked : (i j : ℕ) (ps : List Piece) → getD (markAt i ps) j noPiece .weight ≡ getD ps j noPiece .weight
-weight-marked i j [] = refl
-weight-marked zero zero (p ∷ ps) = refl
-weight-marked zero (suc j) (p ∷ ps) = refl
-weight-marked (suc i) zero (p ∷ ps) = refl
-weight-marked (suc i) (suc j) (p ∷ ps) = weight-marked i j ps
+weight-vacated : (i j : ℕ) (ps : List Piece) → getD (vacateAt i ps) j noPiece .weight ≡ getD ps j noPiece .weight
+weight-vacated i j [] = refl
+weight-vacated zero zero (p ∷ ps) = refl
+weight-vacated zero (suc j) (p ∷ ps) = refl
+weight-vacated (suc i) zero (p ∷ ps) = refl
+weight-vacated (suc i) (suc j) (p ∷ ps) = weight-vacated i j ps
 
-plan-marked : (i : ℕ) (ks : List ℕ) (c want : ℕ) (ps : List Piece) → planFrom c ks want (markAt i ps) ≡ planFrom c ks want ps
+plan-vacated : (i : ℕ) (ks : List ℕ) (c want : ℕ) (ps : List Piece) → planFrom c ks want (vacateAt i ps) ≡ planFrom c ks want ps
 unfolding planFrom
-plan-marked i [] c want ps = refl
-plan-marked i (k ∷ ks) c want ps = rw (weight-marked, plan-marked i ks)
+plan-vacated i [] c want ps = refl
+plan-vacated i (k ∷ ks) c want ps = rw (weight-vacated, plan-vacated i ks)
 
 -- one key more goes whole
-outcome-suc : (k : ℕ) (ks : List ℕ) (ps : List Piece) (r : Plan) → outcome (k ∷ ks) ps (further r)
-    ≡ oneWhole (atKey ps k) (outcome ks (markAt (placeOf k) ps) r)
-unfolding marked picked
-outcome-suc k ks ps r = refl
+takenBy-suc : (k : ℕ) (ks : List ℕ) (ps : List Piece) (r : Plan) → takenBy (k ∷ ks) ps (further r)
+    ≡ oneWhole (atKey ps k) (takenBy ks (vacateAt (placeOf k) ps) r)
+unfolding vacateAll picked
+takenBy-suc k ks ps r = refl
 
 -- nothing more is wanted
 pub reduced-zero : (ks : List ℕ) (ps : List Piece) → reduced 0 ks ps ≡ ps
 reduced-zero [] ps = refl
 reduced-zero (k ∷ ks) ps = rw (sub-zero (atKey ps k .weight)) (set-getD ps (placeOf k) noPiece)
 
-reached : (ks : List ℕ) (want : ℕ) (ps : List Piece) → want ≡ 0 → stop want (stay ps) ≡ outcome ks ps (planFrom 0 ks want ps)
-unfolding planFrom marked picked
+reached : (ks : List ℕ) (want : ℕ) (ps : List Piece) → want ≡ 0 → stop want (stay ps) ≡ takenBy ks ps (planFrom 0 ks want ps)
+unfolding planFrom vacateAll picked
 reached [] want ps e = refl
 reached (k ∷ ks) want ps e = rw (e, reduced-zero (k ∷ ks) ps)
 
 -- x is picked between b and a, and k is its key
 module _ (more : ℕ → List Piece → Taken) (s want : ℕ) (b : List Piece) (x : Piece) (a : List Piece) (k : ℕ) (ks : List ℕ)
-    (apart : s ≢ MARK) (wanted : want ≢ 0) (hx : x .holder ≡ s) (pk : placeOf k ≡ length b) where
+    (apart : s ≢ VACANT) (wanted : want ≢ 0) (hx : x .holder ≡ s) (pk : placeOf k ≡ length b) where
   abbrev all : List Piece
   all = b ++ (x ∷ a)
 
@@ -137,34 +139,34 @@ module _ (more : ℕ → List Piece → Taken) (s want : ℕ) (b : List Piece) (
   put : (y : Piece) → set all (placeOf k) y ≡ b ++ (y ∷ a)
   put y = set-at b x a y (placeOf k) (sym pk)
 
-  gone : markAt (placeOf k) all ≡ b ++ (mark x ∷ a)
-  gone = rw there (put (mark x))
+  gone : vacateAt (placeOf k) all ≡ b ++ (vacated x ∷ a)
+  gone = rw there (put (vacated x))
 
-  stay-gone : stay (b ++ (mark x ∷ a)) ≡ stay b ++ stay a
+  stay-gone : stay (b ++ (vacated x ∷ a)) ≡ stay b ++ stay a
   unfolding stay
-  stay-gone = stay-append b (mark x ∷ a)
+  stay-gone = stay-append b (vacated x ∷ a)
 
   stay-put : (y : Piece) → y .holder ≡ s → stay (b ++ (y ∷ a)) ≡ stay b ++ (y ∷ stay a)
   unfolding stay
-  stay-put y e = stay-append b (y ∷ a) ∙ rw (ne-eqb (y .holder) MARK (λ z. apart (sym e ∙ z)))
+  stay-put y e = stay-append b (y ∷ a) ∙ rw (ne-eqb (y .holder) VACANT (λ z. apart (sym e ∙ z)))
 
   abbrev less : List Piece
-  less = b ++ (mark x ∷ a)
+  less = b ++ (vacated x ∷ a)
 
   abbrev rest : ℕ
   rest = want - x .weight
 
-  turn : (t : Bool) → leb (x .weight) want ≡ t → more rest (stay less) ≡ outcome ks less (planFrom 0 ks rest less)
-      → takeFrom more want (stay b) x (stay a) t ≡ outcome (k ∷ ks) all (planFrom 0 (k ∷ ks) want all)
-  unfolding planFrom marked picked
+  turn : (t : Bool) → leb (x .weight) want ≡ t → more rest (stay less) ≡ takenBy ks less (planFrom 0 ks rest less)
+      → takeFrom more want (stay b) x (stay a) t ≡ takenBy (k ∷ ks) all (planFrom 0 (k ∷ ks) want all)
+  unfolding planFrom vacateAll picked
   turn true e i =
       let p : planFrom 0 (k ∷ ks) want all ≡ planFrom 1 ks rest all = rw (ne-eqb _ _ wanted, there, e) in
-      let q : planFrom 0 ks rest less ≡ planFrom 0 ks rest all = rw (← gone) (plan-marked (placeOf k) ks 0 rest all) in
-      let o : outcome (k ∷ ks) all (planFrom 1 ks rest all) ≡ oneWhole (atKey all k) (outcome ks (markAt (placeOf k) all) (planFrom 0 ks rest all)) =
-      ap (outcome (k ∷ ks) all) (plan-suc ks 0 rest all) ∙ outcome-suc k ks all _ in
+      let q : planFrom 0 ks rest less ≡ planFrom 0 ks rest all = rw (← gone) (plan-vacated (placeOf k) ks 0 rest all) in
+      let o : takenBy (k ∷ ks) all (planFrom 1 ks rest all) ≡ oneWhole (atKey all k) (takenBy ks (vacateAt (placeOf k) all) (planFrom 0 ks rest all)) =
+      ap (takenBy (k ∷ ks) all) (plan-suc ks 0 rest all) ∙ takenBy-suc k ks all _ in
       ap (λ (l : List Piece). oneWhole x (more rest l)) (sym stay-gone)
-      ∙ ap (oneWhole x) (i ∙ ap (outcome ks less) q)
-      ∙ sym (ap (outcome (k ∷ ks) all) p ∙ o ∙ rw (gone, there))
+      ∙ ap (oneWhole x) (i ∙ ap (takenBy ks less) q)
+      ∙ sym (ap (takenBy (k ∷ ks) all) p ∙ o ∙ rw (gone, there))
   turn false e i =
       let p : planFrom 0 (k ∷ ks) want all ≡ halt 0 want = rw (ne-eqb _ _ wanted, there, e) in
       let o : stay (reduced want (k ∷ ks) all) ≡ stay b ++ (ofWeight (x .weight - want) x ∷ stay a) =
@@ -172,7 +174,7 @@ module _ (more : ℕ → List Piece → Taken) (s want : ℕ) (b : List Piece) (
       let m : min 1 want ≡ 1 = omega arith in
       rw p (rw (o, there, ne-eqb _ _ wanted, m))
 
-module _ (old back : Bool) (s : ℕ) (apart : s ≢ MARK) where
+module _ (old back : Bool) (s : ℕ) (apart : s ≢ VACANT) where
   abbrev pick : List Piece → Found
   pick = select (prefers old back) s
 
@@ -180,16 +182,16 @@ module _ (old back : Bool) (s : ℕ) (apart : s ≢ MARK) where
   order ms = orderOf old back s 0 ms
 
   abbrev planning : ℕ → List Piece → Taken
-  planning want ms = outcome (order ms) ms (planFrom 0 (order ms) want ms)
+  planning want ms = takenBy (order ms) ms (planFrom 0 (order ms) want ms)
 
   abbrev Same : ℕ → Type 0
-  Same n = (want : ℕ) (ms : List Piece) → length ms ≤ 4096 → length (order ms) ≤ n → takeUpTo pick n want (stay ms) ≡ planning want ms
+  Same n = (want : ℕ) (ms : List Piece) → length ms ≤ mostPlaces → length (order ms) ≤ n → takeUpTo pick n want (stay ms) ≡ planning want ms
 
   same : (n : ℕ) → Same n
-  unfolding takeUpTo planFrom marked picked
+  unfolding takeUpTo planFrom vacateAll picked
   same zero want ms h f = go (order ms) f
     where
-      go : (ks : List ℕ) → length ks ≤ 0 → stop want (stay ms) ≡ outcome ks ms (planFrom 0 ks want ms)
+      go : (ks : List ℕ) → length ks ≤ 0 → stop want (stay ms) ≡ takenBy ks ms (planFrom 0 ks want ms)
       go [] f = refl
       go (k ∷ ks) f = absurd (omega arith)
   same (suc n) want ms h f = next (eqb want 0) refl (same n)
@@ -197,8 +199,8 @@ module _ (old back : Bool) (s : ℕ) (apart : s ≢ MARK) where
       found : want ≢ 0 → (x : Found) → Starts old back s ms x → Same n → takeFound (takeUpTo pick n) want (stay ms) (seen x) ≡ planning want ms
       found w nothing e i = rw e
       found w (at b x a) (k, g, hx, pk, e) i =
-          let ls : List Piece = b ++ (mark x ∷ a) in
-          let short : length ls ≤ 4096 = simp length-append (omega (arith, simp length-append at (ap length g))) in
+          let ls : List Piece = b ++ (vacated x ∷ a) in
+          let short : length ls ≤ mostPlaces = simp length-append (omega (arith, simp length-append at (ap length g))) in
           let fuel : length (order ls) ≤ n = omega (arith, ap length e) in
           rw (e, g) (turn (takeUpTo pick n) s want b x a k (order ls) apart w hx pk (leb (x .weight) want) refl (i (want - x .weight) ls short fuel))
 
@@ -224,12 +226,12 @@ length-order old true s i ps = rw (length-reverse, length-sort) (length-keys old
 length-order old false s i ps = rw length-sort (length-keys old s i ps)
 
 -- The theorem.
-pub taken-planned : (rule : ℕ) (x : Move) (ps : List Piece) → x .source < MARK → length ps ≤ 4096 → All (λ p. p .holder < MARK) ps
+pub taken-planned : (rule : ℕ) (x : Move) (ps : List Piece) → x .source < VACANT → length ps ≤ mostPlaces → All Present ps
     → taken rule x ps ≡ planned rule x ps
 unfolding taken planned
 taken-planned rule x ps hs h u =
     let old = byBirth rule in
     let back = backwards rule in
-    let apart : x .source ≢ MARK = λ e. omega arith in
+    let apart : x .source ≢ VACANT = λ e. omega arith in
     ap (λ (better : Piece → Piece → Bool). takeUpTo (select better (x .source)) (length ps) (x .weight) ps) (rule-is rule)
     ∙ (rw (stay-all ps u) at (same old back (x .source) apart (length ps) (x .weight) ps h (length-order old back (x .source) 0 ps)))

@@ -8,13 +8,13 @@ use lib.ListN.{length, getD, drop, drop-of-length-le}
 use lib.Seq.{drop-cons}
 use borrow.Author.Tests.{eq-eqb, ne-eqb, le-leb, lt-leb}
 use Rattle.table.specs.declared.Piece.{Piece}
-use Rattle.table.specs.Table.{piecesOf, pieceIn}
+use Rattle.table.specs.Table.{mostPlaces, piecesOf, pieceIn}
 use Rattle.picking.specs.declared.selection.Order.{Order}
 use Rattle.picking.specs.declared.plan.Plan.{Plan}
 use Rattle.picking.specs.Plan.{placeOf, inOrder, planFrom}
 use Rattle.picking.proofs.Keys.{length-inOrder}
 
-module _ (o : Order) (n c left : ℕ) (t keys : List ℕ) (z : Plan) (hm : o .count ≤ 4096) (l : length keys ≡ 4096) where
+module _ (o : Order) (n c left : ℕ) (t keys : List ℕ) (z : Plan) (hm : o .count ≤ mostPlaces) (l : length keys ≡ mostPlaces) where
   abbrev ks : List ℕ
   ks = inOrder o keys
 

@@ -4,7 +4,7 @@ ghost use mathlib.Core.Bool.{cond, false};
 ghost use Prim.Native.Nat.{_≤_, _*_};
 ghost use lib.Dec.{eqb, leb};
 ghost use lib.ListN.{length};
-ghost use Rattle.table.specs.Table.{piecesOf};
+ghost use Rattle.table.specs.Table.{mostPlaces, piecesOf};
 ghost use Rattle.picking.specs.Plan.{inOrder, planFrom};
 use crate::selection::Order;
 use crate::selection::nth;
@@ -17,7 +17,7 @@ pub struct Plan {
 
 // The plan for a weight, with the keys in order.
 pub fn plan_of(table: &[u32], n: usize, keys: &[u64], order: Order, weight: u32) -> Plan
-    requires { ⌜ (order .count ≤ 4096) × (4 * n ≤ length (now table)) × (length (now keys) ≡ 4096) ⌝ }
+    requires { ⌜ (order .count ≤ mostPlaces) × (4 * n ≤ length (now table)) × (length (now keys) ≡ mostPlaces) ⌝ }
     ensures { λ r. ⌜ r ≡ planFrom 0 (inOrder order (now (keys .entry))) weight (piecesOf n (now (table .entry))) ⌝ }
 {
     let mut left = weight;

@@ -1,7 +1,7 @@
 -- The laws of a table of pieces. Each is by induction over lists of the form `flat ps ++ rest`, at places counted by `quad`,
 -- which computes where `4 * n` does not.
 -- Assumes nothing.
-use Prim.Native.Nat.{ℕ, zero, suc, _+_, _*_, _≤_, _<_}
+use Prim.Native.Nat.{ℕ, zero, suc, _+_, _-_, _*_, _≤_, _<_}
 use native.Mathlib.Nat.{not-suc-le-zero, le-of-suc-le-suc, add-zero}
 use native.Mathlib.Numerals.{towards-suc}
 use native.Mathlib.Omega.{arith}
@@ -9,7 +9,7 @@ use mathlib.Core.Path.{_≡_, refl, sym, ap, _∙_}
 use mathlib.Core.List.{List, [], _∷_, _++_}
 use native.Mathlib.Numerals.{add-one}
 use lib.ListN.{length, getD, take, drop, set, length-set, List·getD-eq-default}
-use lib.Seq.{sets, getD-drop, take-suc-set, take-set-le, set-out}
+use lib.Seq.{sets, drop-drop, getD-drop, take-suc-set, take-set-le, set-out}
 use Rattle.table.specs.declared.Piece.{Piece}
 use Rattle.table.specs.Pieces.{noPiece}
 use Rattle.table.specs.Table.{piecesOf, flat, firstPiece, over, pieceIn, putIn, placesOf}
@@ -109,6 +109,13 @@ pieces-take (suc j) (suc n) t h = ap (λ (l : List Piece). firstPiece t ∷ l) (
 
 pub formed : (n : ℕ) (t : List ℕ) → 4 * n ≤ length t → t ≡ over n (piecesOf n t) t
 formed n t room = split n t (rw quad-is at room) ∙ rw (← quad-is)
+
+-- what is the same behind n pieces is the same behind more
+pub same-behind : (n k : ℕ) (t t′ : List ℕ) → n ≤ k → drop (4 * n) t′ ≡ drop (4 * n) t → drop (4 * k) t′ ≡ drop (4 * k) t
+same-behind n k t t′ h e =
+    let more : ℕ = 4 * k - 4 * n in
+    let size : 4 * n + more ≡ 4 * k = omega arith in
+    rw (← size) (sym (drop-drop more (4 * n) t′) ∙ ap (drop more) e ∙ drop-drop more (4 * n) t)
 
 -- a place that is not there
 pub no-piece : (n i : ℕ) (t : List ℕ) → n ≤ i → noPiece ≡ pieceIn n t i

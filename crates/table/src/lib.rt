@@ -5,6 +5,8 @@ ghost use lib.ListN.{length};
 ghost use Rattle.table.specs.Pieces.{ofWeight, handTo};
 ghost use Rattle.table.specs.Table.{pieceIn, putIn, placesOf};
 
+pub mod closing; // closing.rt: pieces close up where others have gone
+
 // A table never counts more places than this: a transfer's scratch memory is of this size.
 pub const PLACES: usize = 4096;
 

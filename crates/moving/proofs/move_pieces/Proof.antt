@@ -29,12 +29,12 @@ returns c = search (needs, move-refused)
 
 apply-requires : tie.Need-apply-requires
 apply-requires c κs =
-    let e = c .before .before .before in
-    let f = e .before in
-    let p = f .before in
-    let o = p .before .before .before .before .before .before .before in
-    let s = o .before .before .before .before .before .before .before .before in
-    move-ready _ _ _ _ _ _ _ _ (s .pre) _ _ (o .picking-order .ensures) _ (p .plan-of .ensures) _ (f .is-full .ensures) (e .if1 .left)
+    let branch = c .before .before .before in
+    let fullness = branch .before in
+    let planning = fullness .before in
+    let ordering = planning .before .before .before .before .before .before .before in
+    let start = ordering .before .before .before .before .before .before .before .before in
+    move-ready (start .pre) (ordering .picking-order .ensures) (planning .plan-of .ensures) (fullness .is-full .ensures) (branch .if1 .left)
 
 same-length-4 : tie.Need-same-length-4
 same-length-4 c = search needs
@@ -50,13 +50,13 @@ same-length-7 c = search needs
 
 returns-2 : tie.Need-returns-2
 returns-2 c =
-    let a = c .before .before .before .before in
-    let e = a .before .before .before .before in
-    let f = e .before in
-    let p = f .before in
-    let o = p .before .before .before .before .before .before .before in
-    let s = o .before .before .before .before .before .before .before .before in
-    move-applied _ _ _ _ _ _ _ _ (s .pre) _ _ (o .picking-order .ensures) _ (p .plan-of .ensures) _ (f .is-full .ensures) (e .if1 .left) _ _ (a .apply .ensures)
+    let applying = c .before .before .before .before in
+    let branch = applying .before .before .before .before in
+    let fullness = branch .before in
+    let planning = fullness .before in
+    let ordering = planning .before .before .before .before .before .before .before in
+    let start = ordering .before .before .before .before .before .before .before .before in
+    move-applied (start .pre) (ordering .picking-order .ensures) (planning .plan-of .ensures) (fullness .is-full .ensures) (branch .if1 .left) (applying .apply .ensures)
 
 pub move-pieces-spec : {M : Type 1} → statement M
 move-pieces-spec =

@@ -9,12 +9,12 @@ use Rattle.moving.proofs.apply.lift.Statement.{statement}
 use Rattle.moving.proofs.apply.lift.Tie as tie
 
 abbrev Inv-loop : tie.InvT-loop
-Inv-loop table₀ n keys order whole destination lifted₀ c₀ table lifted c =
-    Lifting order n whole destination c keys table₀ table lifted
+Inv-loop table₀ n keys order whole m lifted₀ c₀ table lifted c =
+    Lifting n whole c m order keys table₀ table lifted
     × (c ≤ whole) × (length table ≡ length table₀) × (length lifted ≡ length lifted₀)
 
 abbrev μ-loop : tie.MeasureT-loop
-μ-loop table₀ n keys order whole destination lifted₀ c₀ table lifted c = whole - c
+μ-loop table₀ n keys order whole m lifted₀ c₀ table lifted c = whole - c
 
 loop-holds : tie.Need-loop-holds Inv-loop μ-loop
 loop-holds c = (search (needs, lift-start), search needs, search needs, search needs)
@@ -32,13 +32,7 @@ loop-less : tie.Need-loop-less Inv-loop μ-loop
 loop-less c = search needs
 
 loop-again : tie.Need-loop-again Inv-loop μ-loop
-loop-again c =
-    let o = c .before .before .before .before in
-    let e = o .before .before .before in
-    let room = e .before .before .before .before .before .before .pre in
-    let kept = e .before .before .loop .inv .0 in
-    let one = o .lift-one .ensures in
-    (lift-next _ _ _ _ _ _ _ _ _ _ _ _ _ room (e .before .loop-test .taken) (e .nth .ensures) (one .0) (one .1) kept, search needs, search needs, search needs)
+loop-again c = (search (needs, lift-next), search needs, search needs, search needs)
 
 same-length : tie.Need-same-length Inv-loop μ-loop
 same-length c = search needs

@@ -1,7 +1,7 @@
--- `apply::lift_one` meets its contract: the piece read is what is marked here and copied there.
+-- `apply::lift_one` meets its contract: the piece read is what is copied, and whose place is vacant.
 -- Assumes nothing.
 use borrow.Author.Needs.{needs}
-use Rattle.moving.proofs.Lifting.{mark-table, lift-copy}
+use Rattle.moving.proofs.Lifting.{lifted-one}
 use Rattle.moving.proofs.apply.lift_one.Statement.{statement}
 use Rattle.moving.proofs.apply.lift_one.Tie as tie
 
@@ -27,7 +27,7 @@ same-length-2 : tie.Need-same-length-2
 same-length-2 c = search needs
 
 returns : tie.Need-returns
-returns c = (search (needs, mark-table), search (needs, lift-copy))
+returns c = search (needs, lifted-one)
 
 pub lift-one-spec : {M : Type 1} → statement M
 lift-one-spec =

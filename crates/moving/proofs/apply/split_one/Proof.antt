@@ -1,7 +1,7 @@
 -- `apply::split_one` meets its contract: of the piece read, the rest is put here and the part there.
 -- Assumes nothing.
 use borrow.Author.Needs.{needs}
-use Rattle.moving.proofs.Lifting.{split-table, split-copy}
+use Rattle.moving.proofs.Lifting.{split-off}
 use Rattle.moving.proofs.apply.split_one.Statement.{statement}
 use Rattle.moving.proofs.apply.split_one.Tie as tie
 
@@ -33,7 +33,7 @@ same-length-2 : tie.Need-same-length-2
 same-length-2 c = search needs
 
 returns : tie.Need-returns
-returns c = (search (needs, split-table), search (needs, split-copy))
+returns c = search (needs, split-off)
 
 pub split-one-spec : {M : Type 1} → statement M
 split-one-spec =

@@ -1,12 +1,12 @@
--- `apply::append` meets its contract. The invariant: the first c lifted pieces are pasted behind the first j of the table.
+-- `closing::append` meets its contract. The invariant: the first c lifted pieces are pasted behind the first j of the table.
 -- Assumes nothing.
 use borrow.Author.Needs.{needs}
 use mathlib.Core.Path.{_≡_}
 use Prim.Native.Nat.{_-_, _≤_}
 use lib.ListN.{length}
-use Rattle.moving.proofs.Closing.{laid, append-start, append-next, append-end}
-use Rattle.moving.proofs.apply.append.Statement.{statement}
-use Rattle.moving.proofs.apply.append.Tie as tie
+use Rattle.table.proofs.ClosingUp.{laid, append-start, append-next, append-end}
+use Rattle.table.proofs.closing.append.Statement.{statement}
+use Rattle.table.proofs.closing.append.Tie as tie
 
 abbrev Inv-loop : tie.InvT-loop
 Inv-loop table₀ j lifted g n c₀ table c = (table ≡ laid j g table₀ lifted c) × (c ≤ g) × (length table ≡ length table₀)

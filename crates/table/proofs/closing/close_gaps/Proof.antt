@@ -1,9 +1,9 @@
--- `apply::close_gaps` meets its contract: where none went, as many are unmarked as there are, so all are.
+-- `closing::close_gaps` meets its contract: where none has gone, as many stay as there are, so all do.
 -- Assumes nothing.
 use borrow.Author.Needs.{needs}
-use Rattle.moving.proofs.Closing.{no-gaps}
-use Rattle.moving.proofs.apply.close_gaps.Statement.{statement}
-use Rattle.moving.proofs.apply.close_gaps.Tie as tie
+use Rattle.table.proofs.ClosingUp.{no-gaps}
+use Rattle.table.proofs.closing.close_gaps.Statement.{statement}
+use Rattle.table.proofs.closing.close_gaps.Tie as tie
 
 returns : tie.Need-returns
 returns c = search (needs, no-gaps)

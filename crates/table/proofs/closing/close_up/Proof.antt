@@ -1,15 +1,15 @@
--- `apply::close_up` meets its contract. The invariant: the first j pieces, and the unmarked of those from i on, are all the unmarked.
+-- `closing::close_up` meets its contract. The invariant: the first j pieces, and those that stay of the pieces from i on, are all that stay.
 -- Assumes nothing.
 use borrow.Author.Needs.{needs}
 use mathlib.Core.Path.{_≡_}
 use mathlib.Core.List.{_++_}
 use Prim.Native.Nat.{_-_, _*_, _≤_}
 use lib.ListN.{length, drop}
 use Rattle.table.specs.Table.{piecesOf}
-use Rattle.picking.specs.Plan.{stay}
-use Rattle.moving.proofs.Closing.{close-start, close-next, stays-most, close-behind, close-end}
-use Rattle.moving.proofs.apply.close_up.Statement.{statement}
-use Rattle.moving.proofs.apply.close_up.Tie as tie
+use Rattle.table.specs.Closing.{stay}
+use Rattle.table.proofs.ClosingUp.{close-start, close-next, next-most, close-behind, close-end}
+use Rattle.table.proofs.closing.close_up.Statement.{statement}
+use Rattle.table.proofs.closing.close_up.Tie as tie
 
 abbrev Inv-loop : tie.InvT-loop
 Inv-loop table₀ n j₀ i₀ table j i =
@@ -28,8 +28,8 @@ piece-at-requires c κs = search needs
 put-piece-requires : tie.Need-put-piece-requires Inv-loop μ-loop
 put-piece-requires c κs = search needs
 
-stays-requires : tie.Need-stays-requires Inv-loop μ-loop
-stays-requires c κs = search needs
+next-place-requires : tie.Need-next-place-requires Inv-loop μ-loop
+next-place-requires c κs = search needs
 
 add-i : tie.Need-add-i Inv-loop μ-loop
 add-i c = search needs
@@ -38,7 +38,7 @@ loop-less : tie.Need-loop-less Inv-loop μ-loop
 loop-less c = search needs
 
 loop-again : tie.Need-loop-again Inv-loop μ-loop
-loop-again c = (search (needs, close-next), search (needs, stays-most), search needs, search (needs, close-behind), search needs)
+loop-again c = (search (needs, close-next), search (needs, next-most), search needs, search (needs, close-behind), search needs)
 
 same-length : tie.Need-same-length Inv-loop μ-loop
 same-length c = search needs
@@ -55,7 +55,7 @@ close-up-spec =
     loop-holds
     piece-at-requires
     put-piece-requires
-    stays-requires
+    next-place-requires
     add-i
     loop-less
     loop-again
