@@ -2,6 +2,7 @@
 -- to another.
 -- Assumes nothing.
 use mathlib.Core.Path.{_≡_, refl, sym, ap, _∙_}
+use mathlib.Core.Logic.{_≢_}
 use mathlib.Core.Bool.{Bool, true, false, cond}
 use mathlib.Core.List.{List, []}
 use Prim.Native.Nat.{ℕ, zero, suc, _+_, _-_, _≤_, _<_}
@@ -124,6 +125,11 @@ module _ (h : Head) (ps qs : List Piece) (s given d received : ℕ) (hs : s < mo
   pub shift-matches : Matches (shifted h s given d received .balances) qs
   unfolding withBalance balanceAt
   shift-matches = record { long = length-set less d _ ∙ long-less; each = raised }
+
+-- another holder's balance stays
+pub shift-there : (h : Head) (s w d : ℕ) → s ≢ d → balanceAt (withBalance h s w) d ≡ balanceAt h d
+unfolding withBalance balanceAt
+shift-there h s w d apart = getD-set-other (h .balances) s d w 0 (λ z. apart (sym z))
 
 -- the code's way there
 module _ (h less : Head) (s given d received x y : ℕ) (ex : x ≡ balanceAt h s) (el : less ≡ withBalance h s (x - given)) (ey : y ≡ balanceAt less d) where

@@ -25,6 +25,7 @@ use Rattle.book.proofs.Memory.{On, book-passed}
 pub record Known (h : Head) (t : List ℕ) : Type 0 where
   pub sound : SoundBook (placesOf t) (bookOf h t)
   pub on : On (placesOf t) h t (bookOf h t)
+  pub few : h .pieces ≤ placesOf t
   pub there : 4 * h .pieces ≤ length t
   pub matches : Matches (h .balances) (piecesOf (h .pieces) t)
   pub balance : (v : ℕ) → balanceAt h v ≡ held v (piecesOf (h .pieces) t)
@@ -53,6 +54,7 @@ by-name h t z (rule, (some, (most, (few, (counted, (fit, (equal, end))))))) =
         tally = z .tally;
       };
       on = record { head-is = rw (long, ← e); lies = record { tail = drop (4 * h .pieces) t; table-is = formed (h .pieces) t room; places-is = refl } };
+      few = leb-true _ _ few;
       there = room;
       matches = m;
       balance = b;

@@ -1,1 +1,1 @@
-pub mod NextHead
+pub mod Posting

@@ -1,11 +1,7 @@
--- `transfers::first_refusal` meets its contract: the tests that led to each `return` pick the first check that applies.
+-- `first_refusal` meets its contract: the tests that led to each `return` pick the first check that applies.
 -- Assumes nothing.
-use mir.Syntax.{w32}
-use mir.Val.{Fits}
-use native.Mathlib.Omega.{arith}
-use lib.ListN.{getD}
 use Rattle.table.proofs.Tests.{tests}
-use Rattle.book.specs.Calls.{transferChecks}
+use Rattle.book.specs.Transfer.{transferChecks}
 use borrow.Author.Needs.{needs}
 use Rattle.posting.proofs.first_refusal.Statement.{statement}
 use Rattle.posting.proofs.first_refusal.Tie as tie
@@ -30,11 +26,8 @@ returns-5 : tie.Need-returns-5
 unfolding transferChecks
 returns-5 c = search tests
 
-mul-balance : tie.Need-mul-balance
-mul-balance c = search needs
-
-element-copy-out-balance : tie.Need-element-copy-out-balance
-element-copy-out-balance c = search needs
+balance-at-requires : tie.Need-balance-at-requires
+balance-at-requires c κs = search needs
 
 cast-if6 : tie.Need-cast-if6
 cast-if6 c = search needs
@@ -42,11 +35,11 @@ cast-if6 c = search needs
 cast-if6-2 : tie.Need-cast-if6-2
 cast-if6-2 c = search needs
 
+cast-if6-3 : tie.Need-cast-if6-3
+cast-if6-3 c = search needs
+
 add-if6 : tie.Need-add-if6
-add-if6 c =
-    let a = c .before .before .before .before .before .before .args in
-    let g : Fits w32 (getD (a .t1 .balances) (a .destination) 0) = search needs in
-    record { fits = omega (arith, g .fits) }
+add-if6 c = search needs
 
 returns-6 : tie.Need-returns-6
 unfolding transferChecks
@@ -69,10 +62,10 @@ first-refusal-spec =
     returns-3
     returns-4
     returns-5
-    mul-balance
-    element-copy-out-balance
+    balance-at-requires
     cast-if6
     cast-if6-2
+    cast-if6-3
     add-if6
     returns-6
     returns-7
