@@ -56,11 +56,11 @@ pub record Follows (n : ℕ) (m : Move) (o : Order) (r : Plan) (keys t l t′ l�
       ++ (map (handTo (m .destination)) (part (r .left) (next (r .whole) o keys) (piecesOf n t)) ++ ifAny (newborn m (lacking (r .left) (next (r .whole) o keys))))
   pub most : g ≤ liftedPlaces
 
--- what the plan planTaken of the pieces in the table
+-- what the plan takes of the pieces in the table
 abbrev pub planTaken : ℕ → Order → Plan → List ℕ → List ℕ → Taken
 planTaken n o r keys t = takenBy (inOrder o keys) (piecesOf n t) r
 
--- Both: all that the plan planTaken is lifted.
+-- Both: all that the plan takes is lifted.
 pub record Gathers (n : ℕ) (m : Move) (o : Order) (r : Plan) (keys t t′ l′ : List ℕ) (g : ℕ) : Type 0 where
   pub stands : t′ ≡ over n (reduced (r .left) (next (r .whole) o keys) (vacateAll (gone (r .whole) o keys) (piecesOf n t))) t
   pub goes : piecesOf g l′ ≡ map (handTo (m .destination)) (planTaken n o r keys t .given) ++ ifAny (newborn m (planTaken n o r keys t .born))

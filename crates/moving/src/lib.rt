@@ -11,7 +11,7 @@ pub const KEYS: usize = table::PLACES;
 // The memory for lifted pieces has room for every place and one piece more: the part of a split, or what is born.
 const LIFTED_PLACES: usize = table::PLACES + 1;
 
-// So many numbers long it is.
+// Its length, four numbers for a piece.
 pub const LIFTED: usize = 4 * LIFTED_PLACES;
 
 // A transfer's answer and the count of pieces after it; or full, and nothing is changed.
