@@ -178,11 +178,11 @@ module _ (h : Head) (t : List ℕ) (x : Transfer) (keys spare lifted : List ℕ)
             go false ef =
                 let u : length (handed (moveOf x) r) ≤ placesOf t = ltb-false _ _ ef in
                 let ea : a ≡ accepted (moveOf x) r = answer-is false ef in rw ea (record {
-              few = omega arith;
-              part = omega (arith, born-is);
-              shifts = shifts;
-              tally = let u = fitting .tally in omega (arith, w .sized .tally);
-            })
+                  few = omega arith;
+                  part = omega (arith, born-is);
+                  shifts = shifts;
+                  tally = let u = fitting .tally in omega (arith, w .sized .tally);
+                })
 
         pub posts-done : (z : Transferred) → z ≡ concluded h x a → Posts h x t t′ z
         posts-done z ez = go full-now refl

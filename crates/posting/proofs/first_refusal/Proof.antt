@@ -2,6 +2,7 @@
 -- Assumes nothing.
 use Rattle.table.proofs.Tests.{tests}
 use Rattle.book.specs.Transfer.{transferChecks}
+use Rattle.posting.proofs.Refusals.{overfull, tally-full, unrefused}
 use borrow.Author.Needs.{needs}
 use Rattle.posting.proofs.first_refusal.Statement.{statement}
 use Rattle.posting.proofs.first_refusal.Tie as tie
@@ -42,16 +43,13 @@ add-if6 : tie.Need-add-if6
 add-if6 c = search needs
 
 returns-6 : tie.Need-returns-6
-unfolding transferChecks
-returns-6 c = search tests
+returns-6 c = search (needs, overfull)
 
 returns-7 : tie.Need-returns-7
-unfolding transferChecks
-returns-7 c = search tests
+returns-7 c = search (needs, tally-full)
 
 returns-8 : tie.Need-returns-8
-unfolding transferChecks
-returns-8 c = search tests
+returns-8 c = search (needs, unrefused)
 
 pub first-refusal-spec : {M : Type 1} → statement M
 first-refusal-spec =

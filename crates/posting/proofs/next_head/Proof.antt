@@ -17,7 +17,7 @@ add-next : tie.Need-add-next
 add-next c = search needs
 
 returns : tie.Need-returns
-returns c = rw (c .shift .ensures)
+returns c = rw (c .before .before .shift .ensures)
 
 pub next-head-spec : {M : Type 1} → statement M
 next-head-spec = tie.close (tie.spec sub-shift shift-requires cast-next add-next returns)
