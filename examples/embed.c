@@ -22,7 +22,7 @@ static const uint32_t expected_held[VESSELS] = {0, 1, 2};
 
 int main(void) {
     uint32_t table[4 * PLACES] = {0};
-    uint32_t held[VESSELS];
+    uint32_t held[VESSELS] = {0};
     uint32_t i;
 
     lumchaki_opened opened = lumchaki_open(LUMCHAKI_FIRST_BORN, VESSELS);

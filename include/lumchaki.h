@@ -2,11 +2,17 @@
  *
  * A book is a head, which the caller hands along by value, and a table, which the caller lends to
  * each call. Nothing is allocated and nothing is kept between calls, so calls on different books may
- * run at the same time. Every call returns on every input; a call that is refused says so by its
- * number, hands the head back as it was and writes nothing.
+ * run at the same time. Every call returns on every input. A call that is refused says so by its
+ * number and writes nothing; it hands the head back as it was, and all else in its answer is 0. Two
+ * calls have no head to hand back: a refused opening, and a run that its sheet or a table below 4
+ * numbers refuses, give a head of zeros. A run that stops at a movement is not refused: it keeps the
+ * movements before its stop, and head and table are those after the last accepted one.
  *
- * A pointer is followed by the count of elements that it lends. It may not be null, not even with
- * the count 0. What is lent for writing may not overlap anything else that is lent to the call.
+ * A pointer is followed by the count of elements that it lends. With the count 0 it may be null.
+ * Alignment: a pointer to uint32_t (table, report, numbers) is a multiple of 4; a pointer to uint8_t
+ * (sheet, names, out) may be any. What is lent holds values, also where it is only written: clear
+ * fresh memory first. What is lent for writing may not overlap anything else that is lent to the
+ * call, and nobody else writes to what is lent until the call returns.
  *
  * Link with target/staticlib/liblumchaki.a. A transfer or a run needs less than 192 KiB of stack. */
 #ifndef LUMCHAKI_H
@@ -112,7 +118,7 @@ typedef struct {
     uint32_t number;    /* 0, or the refusal of the sheet, the table or the movement at `index` */
     uint32_t index;     /* where the run stopped; the count of movements if all passed */
     uint32_t even;      /* accepted movements without split or birth */
-    lumchaki_head head; /* after the last accepted movement; zeros if no book was opened */
+    lumchaki_head head; /* after the last accepted movement; zeros if sheet or table was refused */
 } lumchaki_ran;
 
 /* Opens a book. Checks 2, 3. */
@@ -166,8 +172,8 @@ uint32_t lumchaki_name_number(const uint8_t *sheet, size_t sheet_len, uint32_t v
 uint32_t lumchaki_write(uint32_t rule, uint32_t vessels, const uint8_t *names, size_t names_len,
                         const uint32_t *numbers, size_t numbers_len, uint8_t *out, size_t out_len);
 
-/* Runs a sheet on a table: reads it, checks 1, opens a book and transfers until one is refused. A run
- * that stops keeps the movements before its stop. */
+/* Runs a sheet on a table: checks as lumchaki_read, then 1, opens a book and transfers until a
+ * movement is refused, with 6 to 9 or 11. A run that stops so keeps the movements before its stop. */
 lumchaki_ran lumchaki_run(const uint8_t *sheet, size_t sheet_len, uint32_t *table, size_t table_len);
 
 #ifdef __cplusplus

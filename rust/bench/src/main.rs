@@ -1,5 +1,6 @@
 //! Times the calls and prints a table for each rule: the proved library, the second implementation
-//! (queues and heaps of its own) and the plain form (the library's algorithm in ordinary Rust).
+//! (queues and heaps of its own) and the plain form (the library's algorithm in ordinary Rust); then
+//! the library's ratios to both, under all rules side by side.
 //!
 //! `cargo run --release -p bench`, or with `--no-default-features` without the library.
 
@@ -10,7 +11,7 @@ mod table;
 use calls::Engine;
 use loads::Loads;
 use second::Second;
-use table::Table;
+use table::{print_ratios, Table};
 
 /// Each engine gets so many turns at each row.
 const TURNS: usize = 3;
@@ -32,6 +33,7 @@ fn main() {
     println!(
         "of library and plain; the second implementation keeps its own pieces and trusts them."
     );
+    let mut tables = Vec::new();
     for (rule, words) in (0..).zip(RULES) {
         let loads = Loads::new(rule);
         println!(
@@ -51,5 +53,7 @@ fn main() {
             table.row(title, times);
         }
         table.print();
+        tables.push(table);
     }
+    print_ratios(&tables);
 }

@@ -1,4 +1,5 @@
-//! A table of times: one column for each implementation, then the first one's ratio to the others.
+//! A table of times for each rule, with one column for each implementation and the first one's ratio
+//! to the others; and a table of the ratios alone, with one column for each rule.
 
 /// Rows of times in seconds.
 pub struct Table<'l> {
@@ -10,7 +11,7 @@ pub struct Table<'l> {
 fn time(seconds: f64) -> String {
     match seconds {
         s if s >= 1e-3 => format!("{:.2} ms", s * 1e3),
-        s if s >= 1e-6 => format!("{:.2} us", s * 1e6),
+        s if s >= 1e-6 => format!("{:.2} µs", s * 1e6),
         s => format!("{:.0} ns", s * 1e9),
     }
 }
@@ -29,14 +30,39 @@ impl<'l> Table<'l> {
 
     pub fn print(&self) {
         let first = self.labels[0];
-        let ratios = self.labels[1..].iter().map(|l| format!("{first}/{l}"));
-        let heads = self.labels.iter().map(|l| l.to_string()).chain(ratios);
+        let over = self.labels[1..].iter().map(|l| format!("{first}/{l}"));
+        let heads = self.labels.iter().map(|l| l.to_string()).chain(over);
         print_line("", heads);
         for (title, times) in &self.rows {
-            let ratios = times[1..].iter().map(|t| format!("{:.2}", times[0] / t));
-            print_line(title, times.iter().copied().map(time).chain(ratios));
+            print_line(title, times.iter().copied().map(time).chain(ratios(times)));
         }
     }
+}
+
+/// The first time's ratio to each of the others.
+fn ratios(times: &[f64]) -> impl Iterator<Item = String> + '_ {
+    times[1..].iter().map(|t| format!("{:.2}", times[0] / t))
+}
+
+/// Prints the ratios of the tables of all rules, which have the same rows: to the first of the others
+/// and, in brackets, to the next.
+pub fn print_ratios(tables: &[Table]) {
+    let labels = tables[0].labels;
+    let over = labels[1..].iter().map(|l| format!("{}/{l}", labels[0]));
+    println!("\n{}", bracketed(over));
+    let rules = (0..tables.len()).map(|rule| format!("rule {rule}"));
+    print_line("", rules);
+    for (i, (title, _)) in tables[0].rows.iter().enumerate() {
+        let cells = tables.iter().map(|t| bracketed(ratios(&t.rows[i].1)));
+        print_line(title, cells);
+    }
+}
+
+/// The first word, and the others in brackets.
+fn bracketed(mut words: impl Iterator<Item = String>) -> String {
+    let first = words.next().unwrap_or_default();
+    let others: String = words.map(|word| format!(" ({word})")).collect();
+    first + &others
 }
 
 fn print_line(title: &str, cells: impl Iterator<Item = String>) {

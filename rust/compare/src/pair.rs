@@ -55,11 +55,14 @@ impl Pair {
         assert_eq!(answer, expected, "{label}: {call} {told:?}");
     }
 
-    /// Opening.
+    /// Opening. A refusal gives a head of zeros.
     pub fn open(&mut self, rule: u32, vessels: u32) -> Opened {
         let answer = self.subject.open(rule, vessels);
         let expected = Second.open(rule, vessels);
         self.same("open", &(rule, vessels), answer, expected);
+        if answer.number != 0 {
+            assert_eq!(answer.head, Head::ZERO, "refused");
+        }
         self.tally.add("open", answer.number);
         answer
     }
@@ -204,7 +207,8 @@ impl Pair {
         answer
     }
 
-    /// Running a sheet. Nothing is written behind the most pieces there can have been.
+    /// Running a sheet. Nothing is written behind the most pieces there can have been. A run that
+    /// the sheet or a short table refuses gives zeros and writes nothing.
     pub fn run(&mut self, sheet: &[u8], table: &mut [u32]) -> Ran {
         let before = table.to_vec();
         let answer = guarded(table, 0xdead_beef, |table| self.subject.run(sheet, table));
@@ -212,6 +216,16 @@ impl Pair {
         let expected = Second.run(sheet, &mut expected_table);
         self.same("run", &sheet, answer, expected);
         self.same("run's table", &sheet, &*table, &expected_table);
+        let checks = [Second.read(sheet).number, u32::from(table.len() < 4)];
+        if let Some(number) = checks.into_iter().find(|&number| number != 0) {
+            let zeros = Ran {
+                number,
+                index: 0,
+                even: 0,
+                head: Head::ZERO,
+            };
+            assert_eq!((answer, &*table), (zeros, &before[..]), "refused");
+        }
         // Pieces never get fewer, so the last piece of the run is the last there ever was.
         let behind = 4 * answer.head.pieces as usize;
         assert_eq!(table[behind..], before[behind..], "behind the last piece");

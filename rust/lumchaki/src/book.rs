@@ -9,8 +9,8 @@ use std::ops::RangeInclusive;
 pub struct Moved {
     /// How many pieces moved whole.
     pub whole: u32,
-    /// Whether a piece was split.
-    pub split: bool,
+    /// How many pieces were split: 0 or 1.
+    pub split: u32,
     /// The weight that the source lacked, born there now.
     pub born: u32,
 }
@@ -35,7 +35,7 @@ pub fn transfer(head: &mut Head, table: &mut [u32], transfer: Transfer) -> Resul
     *head = answer.head;
     Ok(Moved {
         whole: answer.whole,
-        split: answer.split != 0,
+        split: answer.split,
         born: answer.born,
     })
 }

@@ -59,3 +59,89 @@ extern "C" {
         table_len: usize,
     ) -> Ran;
 }
+
+#[cfg(test)]
+#[allow(unsafe_code)]
+mod tests {
+    use super::*;
+    use calls::Refusal;
+    use std::ptr::{null, null_mut};
+
+    /// The 24 + 2 × 8 + 12 bytes of a sheet with one movement.
+    const SHEET: &[u8; 52] = b"PROV\0\0\x02\0\x01\0\0\0\x18\0\0\0\x28\0\0\0\x34\0\0\0\
+        A\0\0\0\0\0\0\0B\0\0\0\0\0\0\0\0\x01\0\0\x05\0\0\0\x07\0\0\0";
+
+    const SHORT: u32 = Refusal::TableShort.number();
+    const NO_SHEET: u32 = Refusal::NoSheet.number();
+
+    /// As the header says, null with the count 0 lends nothing. The language lets an empty slice
+    /// have a null pointer, and a proved function reads and writes only elements that a slice has.
+    #[test]
+    fn null_lends_nothing_to_the_book() {
+        let report_short = Refusal::ReportShort.number();
+        let mut table = [0; 8];
+        let mut room = [9; 2];
+        let (t, r) = (table.as_mut_ptr(), room.as_mut_ptr());
+        // SAFETY: a pointer lends as many elements as stand beside it, null none.
+        let numbers = unsafe {
+            let head = lumchaki_open(0, 2).head;
+            [
+                lumchaki_transfer(head, null_mut(), 0, 0, 1, 0, 1).number,
+                lumchaki_held(head, null(), 0, 0, r, 2).number,
+                lumchaki_held(head, null(), 0, 0, null_mut(), 0).number,
+                lumchaki_held(head, t, 8, 0, null_mut(), 0).number,
+                lumchaki_spread(head, null(), 0, 0, 0, 9, r, 2).number,
+                lumchaki_spread(head, null(), 0, 0, 0, 9, null_mut(), 0).number,
+                lumchaki_spread(head, t, 8, 0, 0, 9, null_mut(), 0).number,
+                lumchaki_whole(head, null(), 0, r, 2).number,
+                lumchaki_whole(head, null(), 0, null_mut(), 0).number,
+                lumchaki_whole(head, t, 8, null_mut(), 0).number,
+            ]
+        };
+        let [transfer, reports @ ..] = numbers;
+        assert_eq!(transfer, SHORT);
+        for numbers in reports.chunks(3) {
+            assert_eq!(numbers, [SHORT, SHORT, report_short]);
+        }
+        assert_eq!((table, room), ([0; 8], [9; 2]));
+    }
+
+    #[test]
+    fn null_lends_nothing_to_the_sheet() {
+        let (names, movement) = (&SHEET[24..40], [0, 1, 5, 7]);
+        let (n, m) = (names.as_ptr(), movement.as_ptr());
+        let mut table = [0; 4];
+        let mut out = [0xee; SHEET.len()];
+        // SAFETY: a pointer lends as many elements as stand beside it, null none.
+        unsafe {
+            assert_eq!(lumchaki_read(SHEET.as_ptr(), SHEET.len()).number, 0);
+            assert_eq!(lumchaki_read(null(), 0).number, NO_SHEET);
+            assert_eq!(lumchaki_movement(null(), 0, 0).number, NO_SHEET);
+            assert_eq!(lumchaki_name(null(), 0, 0), 0);
+            assert_eq!(lumchaki_name_number(null(), 0, 0), NO_SHEET);
+            let (sheet, length) = (SHEET.as_ptr(), SHEET.len());
+            let run = lumchaki_run(sheet, length, null_mut(), 0);
+            assert_eq!((run.number, run.head), (SHORT, Head::ZERO));
+            let run = lumchaki_run(null(), 0, table.as_mut_ptr(), 4);
+            assert_eq!((run.number, run.head), (NO_SHEET, Head::ZERO));
+            assert_eq!(lumchaki_run(null(), 0, null_mut(), 0), run);
+
+            let (o, room) = (out.as_mut_ptr(), out.len());
+            let (layout, count) = (Refusal::Layout.number(), Refusal::Movements.number());
+            let output_short = Refusal::OutputShort.number();
+            assert_eq!(lumchaki_write(0, 2, null(), 0, m, 4, o, room), layout);
+            assert_eq!(lumchaki_write(0, 2, n, 16, null(), 0, o, room), count);
+            assert_eq!(
+                lumchaki_write(0, 2, n, 16, m, 4, null_mut(), 0),
+                output_short
+            );
+            assert_eq!(
+                lumchaki_write(0, 2, null(), 0, null(), 0, null_mut(), 0),
+                layout
+            );
+            assert!(out.iter().all(|&byte| byte == 0xee));
+            assert_eq!(lumchaki_write(0, 2, n, 16, m, 4, o, room), 0);
+        }
+        assert_eq!((table, &out), ([0; 4], SHEET));
+    }
+}

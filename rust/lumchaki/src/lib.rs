@@ -17,7 +17,7 @@
 //! transfer(&mut head, &mut table, Transfer::new([MILL, SILO, 1, 500]))?;
 //! transfer(&mut head, &mut table, Transfer::new([FARM, SILO, 2, 300]))?;
 //! let moved = transfer(&mut head, &mut table, Transfer::new([SILO, MIXER, 5, 600]))?;
-//! assert_eq!((moved.whole, moved.split, moved.born), (1, true, 0));
+//! assert_eq!((moved.whole, moved.split, moved.born), (1, 1, 0));
 //!
 //! let mut report = [0; 4];
 //! assert_eq!(held(&head, &table, MIXER, &mut report)?, [500, 100, 0, 0]);

@@ -7,6 +7,7 @@ mod header;
 mod listing;
 mod order;
 mod sheets;
+mod stops;
 mod vectors;
 #[cfg(feature = "library")]
 mod wrapper;

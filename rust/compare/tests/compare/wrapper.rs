@@ -50,7 +50,7 @@ fn books() {
         assert_eq!(seen.number(&result), bare.number);
         assert_eq!((head, &table), (bare.head, &bare_table));
         if let Ok(moved) = result {
-            let numbers = (moved.whole, u32::from(moved.split), moved.born);
+            let numbers = (moved.whole, moved.split, moved.born);
             assert_eq!(numbers, (bare.whole, bare.split, bare.born));
         } else {
             assert_eq!(head, given_head);
