@@ -1,20 +1,13 @@
 -- A report on head and table: its refusals, and its acceptance on a book known to add up. One law for all three reports.
 -- Assumes nothing.
 use mathlib.Core.Path.{_≡_, refl, sym, _∙_}
-use mathlib.Core.Bool.{Bool, true, false, _&&_}
-use mathlib.Core.List.{List, [], _∷_}
-use Prim.Native.Nat.{ℕ, _*_, _≤_, _<_, zero, suc}
-use native.Mathlib.Omega.{arith}
-use lib.Dec.{eqb}
+use mathlib.Core.List.{List}
+use Prim.Native.Nat.{ℕ, _*_, _≤_, zero, suc}
 use lib.ListN.{length}
-use borrow.Author.Tests.{ltb-false}
-use Rattle.table.specs.declared.Piece.{Piece}
-use Rattle.table.specs.Pieces.{only, Kind, sum, All}
-use Rattle.table.specs.Table.{piecesOf, placesOf}
+use Rattle.table.specs.Table.{piecesOf}
 use Rattle.table.proofs.Pieces.{all-map}
-use Rattle.table.proofs.Table.{length-pieces, places-fit}
-use Rattle.refusal.specs.Numbers.{TOP, first}
-use Rattle.refusal.proofs.Numbers.{passed}
+use Rattle.table.proofs.Table.{length-pieces}
+use Rattle.refusal.specs.Numbers.{first}
 use Rattle.book.specs.declared.Head.{Head}
 use Rattle.book.specs.declared.Reported.{Reported}
 use Rattle.book.specs.Head.{Sized, headOf, bookOf, bookTests, addsUp}
@@ -22,9 +15,8 @@ use Rattle.book.specs.Calls.{ask}
 use Rattle.book.specs.Memory.{outcome, bookChecks, numberOf, callOn, reported}
 use Rattle.book.specs.Reports.{reportRow, reportChecks, onto}
 use Rattle.book.specs.declared.Report.{Report}
-use Rattle.book.specs.declared.Report.the-variants.{Held, Spread, Whole}
 use Rattle.book.proofs.Memory.{refused-on, off-number, on-number, passed-book, book-passed}
-use Rattle.book.proofs.Known.{Known, known}
+use Rattle.book.proofs.Known.{known}
 use Rattle.book.proofs.HeadLaws.{Hold, hold, same-eq}
 use Rattle.reports.specs.Scatter.{Reportable}
 

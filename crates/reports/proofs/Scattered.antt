@@ -29,6 +29,10 @@ all-at done i h = absurd (not-suc-le-zero h)
 all-at (also u x) zero h = u
 all-at (also u x) (suc i) h = all-at x i (le-of-suc-le-suc h)
 
+-- a number of a row
+pub row-at : (f : ℕ → ℕ) (n j : ℕ) → j < n → getD (tab f 0 n) j 0 ≡ f j
+row-at f n j h = getD-tab f 0 n j h ∙ ap f (omega arith)
+
 module _ (test : Piece → Bool) (at : Piece → ℕ) where
   pub length-entered : (r : List ℕ) (p : Piece) → length (entered test at r p) ≡ length r
   length-entered r p = go (test p)
@@ -80,9 +84,8 @@ module _ (test : Piece → Bool) (at : Piece → ℕ) where
         go : (j : ℕ) → j < length cleared → (t : Bool) → ltb j n ≡ t → getD (scatter test at cleared ps) j 0 ≡ getD (tab (tally test at ps) 0 n ++ drop n room) j 0
         go j h true e =
             let l : j < n = ltb-true _ _ e in
-            let z : 0 + j ≡ j = omega arith in
             let r : getD (tab (tally test at ps) 0 n ++ drop n room) j 0 ≡ tally test at ps j =
-            List·getD-append (tab (tally test at ps) 0 n) (drop n room) 0 j (rw length-tab l) ∙ getD-tab (tally test at ps) 0 n j l ∙ ap (tally test at ps) z in
+            List·getD-append (tab (tally test at ps) 0 n) (drop n room) 0 j (rw length-tab l) ∙ row-at (tally test at ps) n j l in
             omega (arith, scatter-at ps cleared j h, cleared-at j l)
         go j h false e =
             let l : n ≤ j = ltb-false _ _ e in

@@ -1,7 +1,6 @@
 -- `reports::fill_held` meets its contract: the row by origin is the held report's, by definition.
 -- Assumes nothing.
 use borrow.Author.Needs.{needs}
-use Rattle.reports.specs.declared.Row.the-variants.{ByOrigin}
 use Rattle.reports.proofs.Filling.{row-tallied}
 use Rattle.reports.proofs.fill_held.Statement.{statement}
 use Rattle.reports.proofs.fill_held.Tie as tie
