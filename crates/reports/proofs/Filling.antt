@@ -7,14 +7,19 @@ use Prim.Native.Nat.{ℕ, zero, suc, _+_, _-_, _*_, _≤_, _<_}
 use native.Mathlib.Nat.{zero-mul, suc-mul, mul-le-mul, mul-le-mul-right, add-zero}
 use native.Mathlib.Numerals.{add-one}
 use native.Mathlib.Omega.{arith}
-use lib.Dec.{leb, eqb}
+use mir.Syntax.{w32}
+use mir.Val.{Fits}
+use lib.Dec.{eqb}
 use lib.ListN.{length, getD, take, drop, set, replicate, length-append, length-drop, length-replicate, drop-of-length-le}
 use lib.Seq.{drop-cons, getD-set-same, set-at, append-snoc, take-at, drop-at, take-all, drop-drop}
-use borrow.Author.Tests.{eq-eqb, ne-eqb, lt-leb, le-leb}
 use Rattle.table.specs.declared.Piece.{Piece}
+use Rattle.table.specs.Pieces.{only, total, weigh, inVessel}
 use Rattle.refusal.specs.Numbers.{TOP}
-use Rattle.book.specs.Reports.{heldRow, rows, over}
-use Rattle.book.proofs.Balances.{length-tab}
+use Rattle.book.specs.Reports.{heldRow, rows, onto}
+use Rattle.book.proofs.BalanceLaws.{length-tab}
+use Rattle.reports.specs.declared.Row.{Row}
+use Rattle.reports.specs.declared.Row.the-variants.{ByOrigin, ByHolder}
+use Rattle.reports.specs.Scatter.{addAt, born, counted, indexOf, Tallied, Reportable}
 
 replicate-snoc : (n a : ℕ) → replicate (suc n) a ≡ replicate n a ++ a ∷ []
 replicate-snoc zero a = refl
@@ -28,30 +33,36 @@ clear-next i n r₀ r h l e =
 pub clear-end : (i n : ℕ) (r₀ r : List ℕ) → i ≤ n → n ≤ i → r ≡ replicate i 0 ++ drop i r₀ → r ≡ replicate n 0 ++ drop n r₀
 clear-end i n r₀ r a b e = let q : n ≡ i = omega arith in rw q e
 
--- entering a piece: the sum fits, and a piece that passes or fails the test
-module _ (r : List ℕ) (i w : ℕ) (c : Bool) where
-  pub enter-fits : i < length r → c ≡ true → getD (cond c (set r i (getD r i 0 + w)) r) i 0 ≤ TOP → getD r i 0 + w < 4294967296
-  enter-fits h e b = let k : getD (set r i (getD r i 0 + w)) i 0 ≤ TOP = rw e at b in omega (arith, getD-set-same r i (getD r i 0 + w) 0 h)
+-- entering a piece, with the answer b to whether it counts: the sum fits, and the two cases
+module _ (r : List ℕ) (i w : ℕ) (b c : Bool) (e : b ≡ c) where
+  pub enter-fits : b ≡ true → (j : ℕ) → j ≡ i → i < length r → getD (cond c (addAt r i w) r) i 0 ≤ TOP → Fits w32 (getD r j 0 + w)
+  enter-fits y j ej h k = let k′ : getD (addAt r i w) i 0 ≤ TOP = rw (← e, y) at k in rw ej (record { fits = omega (arith, getD-set-same r i (getD r i 0 + w) 0 h) })
 
-  pub enter-yes : c ≡ true → set r i (getD r i 0 + w) ≡ cond c (set r i (getD r i 0 + w)) r
-  enter-yes e = rw e
+  pub enter-yes : b ≡ true → (j : ℕ) → j ≡ i → addAt r j w ≡ cond c (addAt r i w) r
+  enter-yes y j ej = rw (ej, ← e, y)
 
-  pub enter-no : c ≡ false → r ≡ cond c (set r i (getD r i 0 + w)) r
-  enter-no e = rw e
+  pub enter-no : b ≡ false → r ≡ cond c (addAt r i w) r
+  enter-no y = rw (← e, y)
 
--- the test of a spread
-module _ (o u from b to : ℕ) where
-  pub born-yes : (o ≡ u) → from ≤ b → b ≤ to → (eqb o u && (leb from b && leb b to)) ≡ true
-  born-yes e f g = rw (eq-eqb o u e, le-leb from b f, le-leb b to g)
+-- What the rows of a book's pieces ask: the pieces that a row counts at an index are some of those that a vessel holds.
+part : (f g : Piece → ℕ) → ((p : Piece) → f p ≤ g p) → (ps : List Piece) → total f ps ≤ total g ps
+part f g h [] = omega arith
+part f g h (p ∷ ps) = omega (arith, h p, part f g h ps)
 
-  pub born-elsewhere : (o ≡ u → ⊥) → (eqb o u && (leb from b && leb b to)) ≡ false
-  born-elsewhere e = rw (ne-eqb o u e)
+only-left : (a c : Bool) (w : ℕ) → only (a && c) w ≤ only a w
+only-left true true w = omega arith
+only-left true false w = omega arith
+only-left false c w = omega arith
 
-  pub born-before : (o ≡ u) → b < from → (eqb o u && (leb from b && leb b to)) ≡ false
-  born-before e f = rw (eq-eqb o u e, lt-leb from b f)
+only-right : (a c : Bool) (w : ℕ) → only (a && c) w ≤ only c w
+only-right true c w = omega arith
+only-right false c w = omega arith
 
-  pub born-after : (o ≡ u) → from ≤ b → to < b → (eqb o u && (leb from b && leb b to)) ≡ false
-  born-after e f g = rw (eq-eqb o u e, le-leb from b f, lt-leb b to g)
+pub row-tallied : (size : ℕ) (ps : List Piece) → Reportable size ps → (row : Row) → Tallied (counted row) (indexOf row) size ps
+row-tallied size ps k (ByOrigin v) =
+    record { inside = k .origins; light = λ j. omega (arith, k .light v, part _ (weigh (inVessel v)) (λ p. only-right (eqb (p .origin) j) (eqb (p .holder) v) (p .weight)) ps) }
+row-tallied size ps k (ByHolder u from to) =
+    record { inside = k .holders; light = λ j. omega (arith, k .light j, part _ (weigh (inVessel j)) (λ p. only-left (eqb (p .holder) j) (born u from to p) (p .weight)) ps) }
 
 -- Rows one behind the other.
 pub length-row : (size v : ℕ) (ps : List Piece) → length (heldRow size v ps) ≡ size
@@ -83,7 +94,7 @@ module _ (m : ℕ) (ps : List Piece) (r₀ : List ℕ) where
   rows-none = rw (zero-mul m)
 
   pub rows-next : (r ys : List ℕ) (v : ℕ) → v < m → m * m ≤ length r₀ → length r ≡ length r₀ → r ≡ rows m 0 v ps ++ drop (v * m) r₀
-      → ys ≡ over (heldRow m v ps) (take (length r - v * m) (drop (v * m) r))
+      → ys ≡ onto (heldRow m v ps) (take (length r - v * m) (drop (v * m) r))
       → take (v * m) r ++ (ys ++ drop (length r - v * m) (drop (v * m) r)) ≡ rows m 0 (v + 1) ps ++ drop ((v + 1) * m) r₀
   rows-next r ys v h room same e ey =
       let d : List ℕ = drop (v * m) r₀ in
@@ -93,5 +104,5 @@ module _ (m : ℕ) (ps : List Piece) (r₀ : List ℕ) where
       let z : 0 + v ≡ v = omega arith in
       simp (ey, tk, dr, length-row, take-all _ d ld, drop-of-length-le d ld, append-nil, add-one, rows-snoc, z, suc-mul, drop-drop, append-assoc)
 
-  pub rows-end : (r : List ℕ) (v : ℕ) → v ≤ m → m ≤ v → r ≡ rows m 0 v ps ++ drop (v * m) r₀ → r ≡ over (rows m 0 m ps) r₀
+  pub rows-end : (r : List ℕ) (v : ℕ) → v ≤ m → m ≤ v → r ≡ rows m 0 v ps ++ drop (v * m) r₀ → r ≡ onto (rows m 0 m ps) r₀
   rows-end r v a b e = let q : v ≡ m = omega arith in rw length-rows (rw q at e)

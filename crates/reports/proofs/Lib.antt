@@ -1,3 +1,4 @@
 pub mod Scattered
 pub mod Filling
 pub mod Asked
+pub mod ReportLaws

@@ -9,19 +9,19 @@ use native.Mathlib.Nat.{not-suc-le-zero, le-of-suc-le-suc}
 use native.Mathlib.Numerals.{add-one}
 use native.Mathlib.Omega.{arith}
 use lib.Dec.{ltb, eqb}
-use lib.ListN.{length, getD, drop, replicate, length-set, length-append, length-replicate, length-drop, drop-of-length-le, List·getD-append}
+use lib.ListN.{length, getD, drop, replicate, getD-replicate, length-set, length-append, length-replicate, length-drop, drop-of-length-le, List·getD-append}
 use lib.Seq.{drop-cons, getD-set-same, getD-set-other, ext-getD, getD-append-add}
 use borrow.Author.Tests.{ltb-true, ltb-false, eqb-true, eqb-false, ne-eqb}
 use Rattle.table.specs.declared.Piece.{Piece}
-use Rattle.table.specs.Pieces.{noPiece, only, total, All, done, also}
+use Rattle.table.specs.Pieces.{noPiece, only, All, done, also}
 use Rattle.table.specs.Table.{piecesOf}
 use Rattle.table.proofs.Pieces.{all-map}
 use Rattle.table.proofs.Table.{length-pieces}
 use Rattle.refusal.specs.Numbers.{TOP}
 use Rattle.book.specs.Head.{tab}
-use Rattle.book.specs.Reports.{over}
-use Rattle.reports.specs.Scatter.{addAt, entered, scatter, Fillable}
-use Rattle.book.proofs.Balances.{length-tab, getD-tab}
+use Rattle.book.specs.Reports.{onto}
+use Rattle.reports.specs.Scatter.{addAt, entered, scatter, tally, Enterable, Fillable, Tallied}
+use Rattle.book.proofs.BalanceLaws.{length-tab, getD-tab}
 
 -- what holds of every piece holds of the one at a place
 pub all-at : {P : Piece → Type 0} {ps : List Piece} → All P ps → (i : ℕ) → i < length ps → P (getD ps i noPiece)
@@ -29,11 +29,11 @@ all-at done i h = absurd (not-suc-le-zero h)
 all-at (also u x) zero h = u
 all-at (also u x) (suc i) h = all-at x i (le-of-suc-le-suc h)
 
-module _ (test : Piece → Bool) (at : Piece → ℕ) where
-  -- the weight of the pieces that pass and have this index
-  abbrev pub tallied : List Piece → ℕ → ℕ
-  tallied ps j = total (λ p. only (eqb (at p) j && test p) (p .weight)) ps
+-- a number of a row
+pub row-at : (f : ℕ → ℕ) (n j : ℕ) → j < n → getD (tab f 0 n) j 0 ≡ f j
+row-at f n j h = getD-tab f 0 n j h ∙ ap f (omega arith)
 
+module _ (test : Piece → Bool) (at : Piece → ℕ) where
   pub length-entered : (r : List ℕ) (p : Piece) → length (entered test at r p) ≡ length r
   length-entered r p = go (test p)
     where
@@ -55,49 +55,43 @@ module _ (test : Piece → Bool) (at : Piece → ℕ) where
       go false true e = omega arith
       go false false e = omega arith
 
-  pub scatter-at : (ps : List Piece) (r : List ℕ) (j : ℕ) → j < length r → getD (scatter test at r ps) j 0 ≡ getD r j 0 + tallied ps j
+  pub scatter-at : (ps : List Piece) (r : List ℕ) (j : ℕ) → j < length r → getD (scatter test at r ps) j 0 ≡ getD r j 0 + tally test at ps j
   unfolding scatter
   scatter-at [] r j h = omega arith
   scatter-at (p ∷ ps) r j h = omega (arith, scatter-at ps (entered test at r p) j (rw (length-entered r p) h), entered-at r p j h)
 
-  tallied-none : (n j : ℕ) {ps : List Piece} → n ≤ j → All (λ p. at p < n) ps → tallied ps j ≡ 0
-  tallied-none n j h done = refl
-  tallied-none n j h (also {p = p} u x) = rw (ne-eqb (at p) j (λ e. omega arith)) (omega (arith, tallied-none n j h x))
+  tally-none : (n j : ℕ) {ps : List Piece} → n ≤ j → All (λ p. at p < n) ps → tally test at ps j ≡ 0
+  tally-none n j h done = refl
+  tally-none n j h (also {p = p} u x) = rw (ne-eqb (at p) j (λ e. omega arith)) (omega (arith, tally-none n j h x))
 
   -- the report: n numbers cleared, and the pieces entered
-  module _ (n : ℕ) (room : List ℕ) (ps : List Piece) (fits : n ≤ length room) (u : All (λ p. at p < n) ps) where
+  module _ (n : ℕ) (room : List ℕ) (ps : List Piece) (fits : n ≤ length room) (u : Tallied test at n ps) where
     abbrev cleared : List ℕ
     cleared = replicate n 0 ++ drop n room
 
     length-cleared : length cleared ≡ length room
     length-cleared = simp (length-append, length-replicate, length-drop) (omega arith)
 
-    pub cleared-at : (j : ℕ) → j < n → getD cleared j 0 ≡ 0
-    cleared-at j h = List·getD-append (replicate n 0) (drop n room) 0 j (rw length-replicate h) ∙ zero-at n j
-      where
-        zero-at : (n j : ℕ) → _≡_ {A = ℕ} (getD (replicate n 0) j 0) 0
-        zero-at zero j = refl
-        zero-at (suc n) zero = refl
-        zero-at (suc n) (suc j) = zero-at n j
+    cleared-at : (j : ℕ) → j < n → getD cleared j 0 ≡ 0
+    cleared-at j h = List·getD-append (replicate n 0) (drop n room) 0 j (rw length-replicate h) ∙ getD-replicate n j 0 0 h
 
-    pub scattered : scatter test at cleared ps ≡ tab (tallied ps) 0 n ++ drop n room
+    scattered : scatter test at cleared ps ≡ tab (tally test at ps) 0 n ++ drop n room
     scattered = ext-getD 0 _ _ (length-scatter ps cleared ∙ length-cleared ∙ sym length-right) (λ j h. go j (rw (length-scatter ps cleared) at h) (ltb j n) refl)
       where
-        length-right : length (tab (tallied ps) 0 n ++ drop n room) ≡ length room
+        length-right : length (tab (tally test at ps) 0 n ++ drop n room) ≡ length room
         length-right = simp (length-append, length-tab, length-drop) (omega arith)
 
-        go : (j : ℕ) → j < length cleared → (t : Bool) → ltb j n ≡ t → getD (scatter test at cleared ps) j 0 ≡ getD (tab (tallied ps) 0 n ++ drop n room) j 0
+        go : (j : ℕ) → j < length cleared → (t : Bool) → ltb j n ≡ t → getD (scatter test at cleared ps) j 0 ≡ getD (tab (tally test at ps) 0 n ++ drop n room) j 0
         go j h true e =
             let l : j < n = ltb-true _ _ e in
-            let z : 0 + j ≡ j = omega arith in
-            let r : getD (tab (tallied ps) 0 n ++ drop n room) j 0 ≡ tallied ps j =
-            List·getD-append (tab (tallied ps) 0 n) (drop n room) 0 j (rw length-tab l) ∙ getD-tab (tallied ps) 0 n j l ∙ ap (tallied ps) z in
+            let r : getD (tab (tally test at ps) 0 n ++ drop n room) j 0 ≡ tally test at ps j =
+            List·getD-append (tab (tally test at ps) 0 n) (drop n room) 0 j (rw length-tab l) ∙ row-at (tally test at ps) n j l in
             omega (arith, scatter-at ps cleared j h, cleared-at j l)
         go j h false e =
             let l : n ≤ j = ltb-false _ _ e in
             let a : getD cleared j 0 ≡ getD (drop n room) (j - n) 0 = behind (replicate n 0) (length-replicate n 0) j l in
-            let b : getD (tab (tallied ps) 0 n ++ drop n room) j 0 ≡ getD (drop n room) (j - n) 0 = behind (tab (tallied ps) 0 n) (length-tab _ 0 n) j l in
-            omega (arith, scatter-at ps cleared j h, tallied-none n j l u)
+            let b : getD (tab (tally test at ps) 0 n ++ drop n room) j 0 ≡ getD (drop n room) (j - n) 0 = behind (tab (tally test at ps) 0 n) (length-tab _ 0 n) j l in
+            omega (arith, scatter-at ps cleared j h, tally-none n j l (u .inside))
           where
             behind : (xs : List ℕ) → length xs ≡ n → (j : ℕ) → n ≤ j → getD (xs ++ drop n room) j 0 ≡ getD (drop n room) (j - n) 0
             behind xs lx j l =
@@ -106,13 +100,13 @@ module _ (test : Piece → Bool) (at : Piece → ℕ) where
 
     -- the numbers cleared can be filled, and filled they are the row
     module _ (r : List ℕ) (e : r ≡ cleared) where
-      pub fillable : ((j : ℕ) → tallied ps j ≤ TOP) → Fillable test at r ps
-      fillable b = all-map (λ p l. each p l (rw length-cleared (omega (arith, l)))) u
+      pub fillable : Fillable test at r ps
+      fillable = all-map (λ p l. each p l (rw length-cleared (omega (arith, l)))) (u .inside)
         where
           each : (p : Piece) → at p < n → at p < length cleared → (at p < length r) × (getD (scatter test at r ps) (at p) 0 ≤ TOP)
-          each p l k = rw e (k, omega (arith, scatter-at ps cleared (at p) k, cleared-at (at p) l, b (at p)))
+          each p l k = rw e (k, omega (arith, scatter-at ps cleared (at p) k, cleared-at (at p) l, u .light (at p)))
 
-      pub filled : (r′ : List ℕ) → r′ ≡ scatter test at r ps → r′ ≡ over (tab (tallied ps) 0 n) room
+      pub filled : (r′ : List ℕ) → r′ ≡ scatter test at r ps → r′ ≡ onto (tab (tally test at ps) 0 n) room
       filled r′ er = rw (er, e, length-tab) scattered
 
   -- The loop, by what is left: the number at a piece's index stays within the bound, a turn, and the end.
@@ -132,7 +126,7 @@ module _ (test : Piece → Bool) (at : Piece → ℕ) where
 
   -- what entering the piece at place i asks
   pub fill-requires : (n i : ℕ) (t r r₀ : List ℕ) (p : Piece) → i < n → p ≡ getD (piecesOf n t) i noPiece → length r ≡ length r₀ → Fillable test at r₀ (piecesOf n t)
-      → scatter test at r (drop i (piecesOf n t)) ≡ scatter test at r₀ (piecesOf n t) → (at p < length r) × (getD (entered test at r p) (at p) 0 ≤ TOP)
+      → scatter test at r (drop i (piecesOf n t)) ≡ scatter test at r₀ (piecesOf n t) → Enterable test at r p
   fill-requires n i t r r₀ p h ep l f e =
       let u = all-at f i (rw length-pieces h) in
       let k : at p < length r = rw (l, ep) (u .0) in

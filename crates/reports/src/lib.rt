@@ -1,19 +1,28 @@
 // Reports: the weight by origin in a vessel, by vessel from an origin, and all of it. Each writes to room that the caller lends.
 ghost use mathlib.Core.Path.{_≡_};
 ghost use mathlib.Core.List.{_++_};
-ghost use Prim.Native.Nat.{ℕ, _<_, _≤_, _*_};
-ghost use lib.ListN.{length, getD, drop, replicate};
-ghost use Rattle.table.specs.Pieces.{All, sum};
+ghost use Prim.Native.Nat.{_≤_, _*_};
+ghost use lib.ListN.{length, drop, replicate};
 ghost use Rattle.table.specs.Table.{piecesOf};
-ghost use Rattle.refusal.specs.Numbers.{TOP, first};
+ghost use Rattle.refusal.specs.Numbers.{first};
+ghost use Rattle.book.specs.declared.Report.the-variants.{Held, Spread, Whole};
 ghost use Rattle.book.specs.Calls.{ask};
 ghost use Rattle.book.specs.Memory.{callOn, reported};
-ghost use Rattle.book.specs.Reports.{heldBy, spread, whole, fromOrigin, bornWithin, heldRow, spreadRow, rows, over, reportChecks};
-ghost use Rattle.reports.specs.Scatter.{isHeld, isBorn, byOrigin, byHolder, entered, scatter, Fillable};
+ghost use Rattle.book.specs.Reports.{heldRow, rows, reportRow, reportChecks, onto};
+ghost use Rattle.reports.specs.Scatter.{born, counted, indexOf, entered, scatter, Enterable, Fillable, rowOf, Tallied, Reportable};
 use book::Head;
+use book::Report;
 use book::Reported;
 use book::audit;
 use table::Piece;
+
+// A row of a report, filled in one pass: which pieces count, and at which number each is entered.
+enum Row {
+    // the pieces that a vessel holds, each at its origin
+    ByOrigin(u32),
+    // the pieces born at an origin from a minute to a minute, each at its holder
+    ByHolder(u32, u32, u32),
+}
 
 fn answer(number: u32, head: Head) -> Reported
     ensures { λ r. ⌜ r ≡ record { number = number; head = head } ⌝ }
@@ -36,95 +45,85 @@ fn clear(report: &mut [u32], n: usize)
     }
 }
 
-// The piece is entered under its origin, if the vessel holds it.
-fn enter_held(p: Piece, vessel: u32, report: &mut [u32])
-    requires { ⌜ (p .origin < length (now report)) × (getD (entered (isHeld vessel) byOrigin (now report) p) (p .origin) 0 ≤ TOP) ⌝ }
-    ensures { λ _. ⌜ now (report .exit) ≡ entered (isHeld vessel) byOrigin (now (report .entry)) p ⌝ }
+// Whether the piece was born at the origin in the span.
+fn is_born(p: Piece, origin: u32, from: u32, to: u32) -> bool
+    ensures { λ r. ⌜ r ≡ born origin from to p ⌝ }
 {
-    if p.holder == vessel {
-        let at = p.origin as usize;
+    if p.origin != origin {
+        return false;
+    }
+    if p.birth < from {
+        return false;
+    }
+    p.birth <= to
+}
+
+// Whether the piece counts in the row.
+fn counts(row: Row, p: Piece) -> bool
+    ensures { λ r. ⌜ r ≡ counted row p ⌝ }
+{
+    match row {
+        Row::ByOrigin(vessel) => p.holder == vessel,
+        Row::ByHolder(origin, from, to) => is_born(p, origin, from, to),
+    }
+}
+
+// The number of the row at which the piece is entered.
+fn index(row: Row, p: Piece) -> usize
+    ensures { λ r. ⌜ r ≡ indexOf row p ⌝ }
+{
+    match row {
+        Row::ByOrigin(_) => p.origin as usize,
+        Row::ByHolder(_, _, _) => p.holder as usize,
+    }
+}
+
+// The piece is entered, if it counts.
+fn enter(p: Piece, row: Row, report: &mut [u32])
+    requires { ⌜ Enterable (counted row) (indexOf row) (now report) p ⌝ }
+    ensures { λ _. ⌜ now (report .exit) ≡ entered (counted row) (indexOf row) (now (report .entry)) p ⌝ }
+{
+    if counts(row, p) {
+        let at = index(row, p);
         report[at] = report[at] + p.weight;
         return;
     }
 }
 
-// The pieces that the vessel holds are entered.
-fn add_held(table: &[u32], n: usize, vessel: u32, report: &mut [u32])
-    requires { ⌜ (4 * n ≤ length (now table)) × Fillable (isHeld vessel) byOrigin (now report) (piecesOf n (now table)) ⌝ }
-    ensures { λ _. ⌜ now (report .exit) ≡ scatter (isHeld vessel) byOrigin (now (report .entry)) (piecesOf n (now (table .entry))) ⌝ }
+// The pieces that count are entered.
+fn add(table: &[u32], n: usize, row: Row, report: &mut [u32])
+    requires { ⌜ (4 * n ≤ length (now table)) × Fillable (counted row) (indexOf row) (now report) (piecesOf n (now table)) ⌝ }
+    ensures { λ _. ⌜ now (report .exit) ≡ scatter (counted row) (indexOf row) (now (report .entry)) (piecesOf n (now (table .entry))) ⌝ }
 {
     let mut i: usize = 0;
     while i < n {
         let p = table::piece_at(table, n, i);
-        enter_held(p, vessel, report);
+        enter(p, row, report);
         i += 1;
     }
+}
+
+// A row of so many numbers, at the start of the room.
+fn fill_row(table: &[u32], n: usize, size: u32, row: Row, report: &mut [u32])
+    requires { ⌜ (4 * n ≤ length (now table)) × (size ≤ length (now report)) × Tallied (counted row) (indexOf row) size (piecesOf n (now table)) ⌝ }
+    ensures { λ _. ⌜ now (report .exit) ≡ onto (rowOf size row (piecesOf n (now (table .entry)))) (now (report .entry)) ⌝ }
+{
+    clear(report, size as usize);
+    add(table, n, row, report);
 }
 
 // The held report of a vessel, at the start of the room.
 fn fill_held(table: &[u32], n: usize, vessels: u32, vessel: u32, report: &mut [u32])
-    requires { ⌜ (4 * n ≤ length (now table)) × (vessels ≤ length (now report)) × All (λ p. p .origin < vessels) (piecesOf n (now table))
-        × (((u : ℕ) → sum (fromOrigin vessel u) (piecesOf n (now table)) ≤ TOP)) ⌝ }
-    ensures { λ _. ⌜ now (report .exit) ≡ over (heldRow vessels vessel (piecesOf n (now (table .entry)))) (now (report .entry)) ⌝ }
+    requires { ⌜ (4 * n ≤ length (now table)) × (vessels ≤ length (now report)) × Reportable vessels (piecesOf n (now table)) ⌝ }
+    ensures { λ _. ⌜ now (report .exit) ≡ onto (heldRow vessels vessel (piecesOf n (now (table .entry)))) (now (report .entry)) ⌝ }
 {
-    clear(report, vessels as usize);
-    add_held(table, n, vessel, report);
-}
-
-// The piece is entered under its holder, if it was born at the origin in the span.
-fn enter_spread(p: Piece, origin: u32, from: u32, to: u32, report: &mut [u32])
-    requires { ⌜ (p .holder < length (now report)) × (getD (entered (isBorn origin from to) byHolder (now report) p) (p .holder) 0 ≤ TOP) ⌝ }
-    ensures { λ _. ⌜ now (report .exit) ≡ entered (isBorn origin from to) byHolder (now (report .entry)) p ⌝ }
-{
-    if p.origin != origin {
-        return;
-    }
-    if p.birth < from {
-        return;
-    }
-    if to < p.birth {
-        return;
-    }
-    let at = p.holder as usize;
-    report[at] = report[at] + p.weight;
-}
-
-// The pieces born at the origin in the span are entered.
-fn add_spread(table: &[u32], n: usize, origin: u32, from: u32, to: u32, report: &mut [u32])
-    requires { ⌜ (4 * n ≤ length (now table)) × Fillable (isBorn origin from to) byHolder (now report) (piecesOf n (now table)) ⌝ }
-    ensures { λ _. ⌜ now (report .exit) ≡ scatter (isBorn origin from to) byHolder (now (report .entry)) (piecesOf n (now (table .entry))) ⌝ }
-{
-    let mut i: usize = 0;
-    while i < n {
-        let p = table::piece_at(table, n, i);
-        enter_spread(p, origin, from, to, report);
-        i += 1;
-    }
-}
-
-// The spread report of an origin and a span, at the start of the room.
-fn fill_spread(
-    table: &[u32],
-    n: usize,
-    vessels: u32,
-    origin: u32,
-    from: u32,
-    to: u32,
-    report: &mut [u32],
-)
-    requires { ⌜ (4 * n ≤ length (now table)) × (vessels ≤ length (now report)) × All (λ p. p .holder < vessels) (piecesOf n (now table))
-        × (((v : ℕ) → sum (bornWithin origin from to v) (piecesOf n (now table)) ≤ TOP)) ⌝ }
-    ensures { λ _. ⌜ now (report .exit) ≡ over (spreadRow vessels origin from to (piecesOf n (now (table .entry)))) (now (report .entry)) ⌝ }
-{
-    clear(report, vessels as usize);
-    add_spread(table, n, origin, from, to, report);
+    fill_row(table, n, vessels, Row::ByOrigin(vessel), report);
 }
 
 // The rows of all vessels: the part of the room from a vessel's row on is lent to its held report.
 fn fill_whole(table: &[u32], n: usize, vessels: u32, report: &mut [u32])
-    requires { ⌜ (4 * n ≤ length (now table)) × (vessels ≤ 64) × (vessels * vessels ≤ length (now report)) × All (λ p. p .origin < vessels) (piecesOf n (now table))
-        × (((v : ℕ) → (u : ℕ) → sum (fromOrigin v u) (piecesOf n (now table)) ≤ TOP)) ⌝ }
-    ensures { λ _. ⌜ now (report .exit) ≡ over (rows vessels 0 vessels (piecesOf n (now (table .entry)))) (now (report .entry)) ⌝ }
+    requires { ⌜ (4 * n ≤ length (now table)) × (vessels * vessels ≤ length (now report)) × Reportable vessels (piecesOf n (now table)) ⌝ }
+    ensures { λ _. ⌜ now (report .exit) ≡ onto (rows vessels 0 vessels (piecesOf n (now (table .entry)))) (now (report .entry)) ⌝ }
 {
     let mut v: u32 = 0;
     while v < vessels {
@@ -134,60 +133,80 @@ fn fill_whole(table: &[u32], n: usize, vessels: u32, report: &mut [u32])
     }
 }
 
-// The checks of each report after 1 and 4.
-fn held_refusal(head: Head, vessel: u32, room: usize) -> u32
-    ensures { λ r. ⌜ r ≡ first (reportChecks (head .vessels) room (heldBy vessel)) ⌝ }
+// What is asked, at the start of room that its checks found long enough.
+fn fill(table: &[u32], n: usize, vessels: u32, asked: Report, room: &mut [u32])
+    requires { ⌜ (4 * n ≤ length (now table)) × (first (reportChecks vessels (length (now room)) asked) ≡ 0) × Reportable vessels (piecesOf n (now table)) ⌝ }
+    ensures { λ _. ⌜ now (room .exit) ≡ onto (reportRow vessels (piecesOf n (now (table .entry))) asked) (now (room .entry)) ⌝ }
 {
-    if head.vessels <= vessel {
-        return refusal::NO_VESSEL;
+    match asked {
+        Report::Held(vessel) => fill_held(table, n, vessels, vessel, room),
+        Report::Spread(origin, from, to) => {
+            fill_row(table, n, vessels, Row::ByHolder(origin, from, to), room)
+        }
+        Report::Whole => fill_whole(table, n, vessels, room),
     }
-    if room < head.vessels as usize {
-        return refusal::REPORT_SHORT;
-    }
-    0
 }
 
-fn spread_refusal(head: Head, origin: u32, from: u32, to: u32, room: usize) -> u32
-    ensures { λ r. ⌜ r ≡ first (reportChecks (head .vessels) room (spread origin from to)) ⌝ }
+// The checks after 1 and 4.
+fn refusal_to(asked: Report, vessels: u32, room: usize) -> u32
+    ensures { λ r. ⌜ r ≡ first (reportChecks vessels room asked) ⌝ }
 {
-    if head.vessels <= origin {
-        return refusal::NO_VESSEL;
+    let row = vessels as usize;
+    match asked {
+        Report::Held(vessel) => {
+            if vessels <= vessel {
+                return refusal::NO_VESSEL;
+            }
+            if room < row {
+                return refusal::REPORT_SHORT;
+            }
+            return 0;
+        }
+        Report::Spread(origin, from, to) => {
+            if vessels <= origin {
+                return refusal::NO_VESSEL;
+            }
+            if to < from {
+                return refusal::SPAN_BACK;
+            }
+            if room < row {
+                return refusal::REPORT_SHORT;
+            }
+            return 0;
+        }
+        Report::Whole => {
+            if room < row * row {
+                return refusal::REPORT_SHORT;
+            }
+            return 0;
+        }
     }
-    if to < from {
-        return refusal::SPAN_BACK;
-    }
-    if room < head.vessels as usize {
-        return refusal::REPORT_SHORT;
-    }
-    0
 }
 
-fn whole_refusal(head: Head, room: usize) -> u32
-    ensures { λ r. ⌜ r ≡ first (reportChecks (head .vessels) room whole) ⌝ }
-{
-    let vessels = head.vessels as usize;
-    if room < vessels * vessels {
-        return refusal::REPORT_SHORT;
-    }
-    0
-}
-
-// The weight by origin in a vessel.
-pub fn held(head: Head, table: &[u32], vessel: u32, report: &mut [u32]) -> Reported
-    ensures { λ r. ⌜ (r ≡ reported (callOn head (now (table .entry)) (ask (heldBy vessel) (now (report .entry)))))
-        × (now (report .exit) ≡ (callOn head (now (table .entry)) (ask (heldBy vessel) (now (report .entry)))) .room) ⌝ }
+// What is asked of the book, written to the room.
+pub fn report(head: Head, table: &[u32], asked: Report, room: &mut [u32]) -> Reported
+    ensures { λ r. ⌜ (r ≡ reported (callOn head (now (table .entry)) (ask asked (now (room .entry)))))
+        × (now (room .exit) ≡ (callOn head (now (table .entry)) (ask asked (now (room .entry)))) .room) ⌝ }
 {
     let off = audit::refusal_of(head, table);
     if off != 0 {
         return answer(off, head);
     }
-    let number = held_refusal(head, vessel, report.len());
+    let number = refusal_to(asked, head.vessels, room.len());
     if number != 0 {
         return answer(number, head);
     }
     let n = head.pieces as usize;
-    fill_held(table, n, head.vessels, vessel, report);
+    fill(table, n, head.vessels, asked, room);
     answer(0, head)
+}
+
+// The weight by origin in a vessel.
+pub fn held(head: Head, table: &[u32], vessel: u32, room: &mut [u32]) -> Reported
+    ensures { λ r. ⌜ (r ≡ reported (callOn head (now (table .entry)) (ask (Held vessel) (now (room .entry)))))
+        × (now (room .exit) ≡ (callOn head (now (table .entry)) (ask (Held vessel) (now (room .entry)))) .room) ⌝ }
+{
+    report(head, table, Report::Held(vessel), room)
 }
 
 // The weight in each vessel that was born at an origin from a minute to a minute.
@@ -197,38 +216,18 @@ pub fn spread(
     origin: u32,
     from: u32,
     to: u32,
-    report: &mut [u32],
+    room: &mut [u32],
 ) -> Reported
-    ensures { λ r. ⌜ (r ≡ reported (callOn head (now (table .entry)) (ask (spread origin from to) (now (report .entry)))))
-        × (now (report .exit) ≡ (callOn head (now (table .entry)) (ask (spread origin from to) (now (report .entry)))) .room) ⌝ }
+    ensures { λ r. ⌜ (r ≡ reported (callOn head (now (table .entry)) (ask (Spread origin from to) (now (room .entry)))))
+        × (now (room .exit) ≡ (callOn head (now (table .entry)) (ask (Spread origin from to) (now (room .entry)))) .room) ⌝ }
 {
-    let off = audit::refusal_of(head, table);
-    if off != 0 {
-        return answer(off, head);
-    }
-    let number = spread_refusal(head, origin, from, to, report.len());
-    if number != 0 {
-        return answer(number, head);
-    }
-    let n = head.pieces as usize;
-    fill_spread(table, n, head.vessels, origin, from, to, report);
-    answer(0, head)
+    report(head, table, Report::Spread(origin, from, to), room)
 }
 
 // The held reports of all vessels, row by row.
-pub fn whole(head: Head, table: &[u32], report: &mut [u32]) -> Reported
-    ensures { λ r. ⌜ (r ≡ reported (callOn head (now (table .entry)) (ask whole (now (report .entry)))))
-        × (now (report .exit) ≡ (callOn head (now (table .entry)) (ask whole (now (report .entry)))) .room) ⌝ }
+pub fn whole(head: Head, table: &[u32], room: &mut [u32]) -> Reported
+    ensures { λ r. ⌜ (r ≡ reported (callOn head (now (table .entry)) (ask Whole (now (room .entry)))))
+        × (now (room .exit) ≡ (callOn head (now (table .entry)) (ask Whole (now (room .entry)))) .room) ⌝ }
 {
-    let off = audit::refusal_of(head, table);
-    if off != 0 {
-        return answer(off, head);
-    }
-    let number = whole_refusal(head, report.len());
-    if number != 0 {
-        return answer(number, head);
-    }
-    let n = head.pieces as usize;
-    fill_whole(table, n, head.vessels, report);
-    answer(0, head)
+    report(head, table, Report::Whole, room)
 }

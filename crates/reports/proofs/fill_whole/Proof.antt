@@ -45,7 +45,7 @@ fill-held-requires c κs =
     let l = c .before .before in
     let s = l .before .before .before in
     let q = square (l .loop .v) (s .args .vessels) (search needs) in
-    (search needs, simp (length-take, length-drop) (omega arith), s .pre .3, s .pre .4 _)
+    (search needs, simp (length-take, length-drop) (omega arith), search needs)
 
 add-v : tie.Need-add-v Inv-loop μ-loop
 add-v c = search needs

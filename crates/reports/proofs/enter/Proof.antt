@@ -1,13 +1,15 @@
--- `reports::enter_held` meets its contract: the two cases of `entered`.
+-- `reports::enter` meets its contract: the two cases of `entered`.
 -- Assumes nothing.
-use borrow.Author.Tests.{eq-eqb, ne-eqb}
-use Rattle.reports.proofs.Filling.{enter-fits, enter-yes, enter-no}
 use borrow.Author.Needs.{needs}
-use Rattle.reports.proofs.enter_held.Statement.{statement}
-use Rattle.reports.proofs.enter_held.Tie as tie
+use Rattle.reports.proofs.Filling.{enter-fits, enter-yes, enter-no}
+use Rattle.reports.proofs.enter.Statement.{statement}
+use Rattle.reports.proofs.enter.Tie as tie
 
-cast-at : tie.Need-cast-at
-cast-at c = search needs
+counts-requires : tie.Need-counts-requires
+counts-requires c κs = search needs
+
+index-requires : tie.Need-index-requires
+index-requires c κs = search needs
 
 mul-report : tie.Need-mul-report
 mul-report c = search needs
@@ -16,7 +18,7 @@ slice-read-report : tie.Need-slice-read-report
 slice-read-report c = search needs
 
 add-report : tie.Need-add-report
-add-report c = record { fits = search (needs, enter-fits, eq-eqb) }
+add-report c = search (needs, enter-fits)
 
 mul-report-2 : tie.Need-mul-report-2
 mul-report-2 c = search needs
@@ -28,16 +30,17 @@ same-length : tie.Need-same-length
 same-length c = search needs
 
 returns : tie.Need-returns
-returns c = search (needs, enter-yes, eq-eqb)
+returns c = search (needs, enter-yes)
 
 returns-2 : tie.Need-returns-2
-returns-2 c = search (needs, enter-no, ne-eqb)
+returns-2 c = search (needs, enter-no)
 
-pub enter-held-spec : {M : Type 1} → statement M
-enter-held-spec =
+pub enter-spec : {M : Type 1} → statement M
+enter-spec =
     tie.close
     (tie.spec
-    cast-at
+    counts-requires
+    index-requires
     mul-report
     slice-read-report
     add-report

@@ -1,20 +1,20 @@
--- `reports::add_spread` meets its contract. The invariant: entering the pieces left makes the report that is wanted.
+-- `reports::add` meets its contract. The invariant: entering the pieces left makes the report that is wanted.
 -- Assumes nothing.
 use borrow.Author.Needs.{needs}
 use Prim.Native.Nat.{_-_, _≤_}
 use mathlib.Core.Path.{_≡_, refl}
 use lib.ListN.{length, drop}
 use Rattle.table.specs.Table.{piecesOf}
-use Rattle.reports.specs.Scatter.{isBorn, byHolder, scatter}
+use Rattle.reports.specs.Scatter.{counted, indexOf, scatter}
 use Rattle.reports.proofs.Scattered.{fill-requires, scatter-next, scatter-end}
-use Rattle.reports.proofs.add_spread.Statement.{statement}
-use Rattle.reports.proofs.add_spread.Tie as tie
+use Rattle.reports.proofs.add.Statement.{statement}
+use Rattle.reports.proofs.add.Tie as tie
 
 abbrev Inv-loop : tie.InvT-loop
-Inv-loop table n origin from to report₀ i₀ report i = (i ≤ n) × (length report ≡ length report₀) × (scatter (isBorn origin from to) byHolder report (drop i (piecesOf n table)) ≡ scatter (isBorn origin from to) byHolder report₀ (piecesOf n table))
+Inv-loop table n row report₀ i₀ report i = (i ≤ n) × (length report ≡ length report₀) × (scatter (counted row) (indexOf row) report (drop i (piecesOf n table)) ≡ scatter (counted row) (indexOf row) report₀ (piecesOf n table))
 
 abbrev μ-loop : tie.MeasureT-loop
-μ-loop table n origin from to report₀ i₀ report i = n - i
+μ-loop table n row report₀ i₀ report i = n - i
 
 loop-holds : tie.Need-loop-holds Inv-loop μ-loop
 loop-holds c = (search needs, search needs, refl)
@@ -22,11 +22,11 @@ loop-holds c = (search needs, search needs, refl)
 piece-at-requires : tie.Need-piece-at-requires Inv-loop μ-loop
 piece-at-requires c κs = search needs
 
-enter-spread-requires : tie.Need-enter-spread-requires Inv-loop μ-loop
-enter-spread-requires c κs =
+enter-requires : tie.Need-enter-requires Inv-loop μ-loop
+enter-requires c κs =
     let l = c .before .before .before in
     let s = l .before .before .before in
-    fill-requires (isBorn (s .args .origin) (s .args .from) (s .args .to)) byHolder _ _ _ _ _ _ (search needs) (c .before .piece-at .ensures) (l .loop .inv .1) (s .pre .1) (l .loop .inv .2)
+    fill-requires (counted (s .args .row)) (indexOf (s .args .row)) _ _ _ _ _ _ (search needs) (c .before .piece-at .ensures) (l .loop .inv .1) (s .pre .1) (l .loop .inv .2)
 
 add-i : tie.Need-add-i Inv-loop μ-loop
 add-i c = search needs
@@ -43,15 +43,15 @@ same-length c = search needs
 returns : tie.Need-returns Inv-loop μ-loop
 returns c = search (needs, scatter-end)
 
-pub add-spread-spec : {M : Type 1} → statement M
-add-spread-spec =
+pub add-spec : {M : Type 1} → statement M
+add-spec =
     tie.close
     (tie.spec
     Inv-loop
     μ-loop
     loop-holds
     piece-at-requires
-    enter-spread-requires
+    enter-requires
     add-i
     loop-less
     loop-again
