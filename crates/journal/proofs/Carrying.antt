@@ -15,49 +15,30 @@ use Rattle.book.specs.declared.Opened.{Opened}
 use Rattle.book.specs.declared.Transferred.{Transferred}
 use Rattle.book.specs.declared.Reported.{Reported}
 use Rattle.book.specs.Head.{opening}
-use Rattle.book.specs.Reports.{Report, heldBy, spread, whole}
-use Rattle.book.specs.Calls.{Call, move, ask}
-use Rattle.book.specs.Memory.{callOn, transferOf, transferred, reported}
+use Rattle.book.specs.declared.Report.{Report}
+use Rattle.book.specs.Transfer.{transferOf}
+use Rattle.book.specs.Calls.{ask}
+use Rattle.book.specs.Memory.{callOn, reported}
 use Rattle.book.specs.Lists.{callsOn}
-use Rattle.journal.specs.Carried.{callSize, callIn, roomLeft, Carried, carried, callsIn, countCalls, CarriesOut}
+use Rattle.posting.specs.Posting.{Posts}
+use Rattle.journal.specs.Carried.{callSize, reportOf, callOf, callIn, roomLeft, Makes, Carried, carried, MakesAll, callsIn, countCalls, CarriesOut}
 use Rattle.reports.proofs.Asked.{asked-nothing}
 use Rattle.book.proofs.Lists.{demand-3}
 
+-- the kind tells the call
 module _ (h : Head) (t l : List ℕ) (at : ℕ) (room : List ℕ) where
-  abbrev call : Call
-  call = callIn (drop at l) room
-
-  -- what a call promises, with answer z, table t′ and room r′
-  abbrev Promised : Reported → List ℕ → List ℕ → Type 0
-  Promised z t′ r′ = (z ≡ reported (callOn h t call)) × (t′ ≡ (callOn h t call) .table) × (r′ ≡ roomLeft call (callOn h t call) room)
-
-  -- the kind tells the call
-  as-transfer : getD l at 0 ≡ 0 → call ≡ move (transferOf (getD l (at + 1) 0) (getD l (at + 2) 0) (getD l (at + 3) 0) (getD l (at + 4) 0))
+  is-call : callIn (drop at l) room ≡ callOf (getD l at 0) (getD l (at + 1) 0) (getD l (at + 2) 0) (getD l (at + 3) 0) (getD l (at + 4) 0) room
   unfolding callIn
-  as-transfer e = simp (getD-drop, add-zero, eq-eqb _ _ e)
+  is-call = simp (getD-drop, add-zero)
 
-  module _ (n0 : getD l at 0 ≡ 0 → ⊥) where
-    pub as-held : getD l at 0 ≡ 1 → call ≡ ask (heldBy (getD l (at + 1) 0)) room
-    unfolding callIn
-    as-held e = simp (getD-drop, add-zero, ne-eqb _ _ n0, eq-eqb _ _ e)
+  pub made-transfer : getD l at 0 ≡ 0 → (z : Transferred) (t′ : List ℕ) → Posts h (transferOf (getD l (at + 1) 0) (getD l (at + 2) 0) (getD l (at + 3) 0) (getD l (at + 4) 0)) t t′ z
+      → Makes h (callIn (drop at l) room) t room t′ room (record { number = z .number; head = z .head })
+  made-transfer e z t′ p =
+      rw (is-call, eq-eqb _ _ e) (record { answer = ap (λ (z : Transferred). record { number = z .number; head = z .head }) (p .answer); table = p .table; room = refl })
 
-    module _ (n1 : getD l at 0 ≡ 1 → ⊥) where
-      pub as-spread : getD l at 0 ≡ 2 → call ≡ ask (spread (getD l (at + 1) 0) (getD l (at + 2) 0) (getD l (at + 3) 0)) room
-      unfolding callIn
-      as-spread e = simp (getD-drop, add-zero, ne-eqb _ _ n0, ne-eqb _ _ n1, eq-eqb _ _ e)
-
-      pub as-whole : (getD l at 0 ≡ 2 → ⊥) → call ≡ ask whole room
-      unfolding callIn
-      as-whole n2 = simp (getD-drop, add-zero, ne-eqb _ _ n0, ne-eqb _ _ n1, ne-eqb _ _ n2)
-
-  pub did-transfer : getD l at 0 ≡ 0 → (z : Transferred) (t′ : List ℕ)
-      → let c = move (transferOf (getD l (at + 1) 0) (getD l (at + 2) 0) (getD l (at + 3) 0) (getD l (at + 4) 0)) in
-      (z ≡ transferred (callOn h t c)) × (t′ ≡ (callOn h t c) .table) → Promised (record { number = z .number; head = z .head }) t′ room
-  did-transfer e z t′ p = rw (as-transfer e) (ap (λ (z : Transferred). record { number = z .number; head = z .head }) (p .0), p .1, refl)
-
-  pub did-report : (q : Report) → call ≡ ask q room → (z : Reported) (r′ : List ℕ)
-      → (z ≡ reported (callOn h t (ask q room))) × (r′ ≡ (callOn h t (ask q room)) .room) → Promised z t r′
-  did-report q e z r′ p = rw e (p .0, sym (asked-nothing h t q room .1), p .1)
+  pub made-report : (getD l at 0 ≡ 0 → ⊥) → (q : Report) → q ≡ reportOf (getD l at 0) (getD l (at + 1) 0) (getD l (at + 2) 0) (getD l (at + 3) 0) → (z : Reported) (r′ : List ℕ)
+      → (z ≡ reported (callOn h t (ask q room))) × (r′ ≡ (callOn h t (ask q room)) .room) → Makes h (callIn (drop at l) room) t room t r′ z
+  made-report ne q e z r′ p = rw (is-call, ne-eqb _ _ ne, ← e) (record { answer = p .0; table = sym (asked-nothing h t q room .1); room = p .1 })
 
 -- Where carrying out stands before call i of n: the numbers so far and those that are left make the whole, and so do head, table and room.
 pub record Going (n : ℕ) (l : List ℕ) (h₀ : Head) (t₀ a₀ r₀ : List ℕ) (h : Head) (t a r : List ℕ) (i : ℕ) : Type 0 where
@@ -88,20 +69,20 @@ module _ (n : ℕ) (l : List ℕ) (h₀ : Head) (t₀ a₀ r₀ : List ℕ) (h :
   abbrev all : Carried
   all = carried n l h₀ t₀ r₀
 
-  pub going-next : (z : Reported) (t′ r′ : List ℕ) → i < n → n ≤ length a₀ → Promised h t l (callSize * i) r z t′ r′ → length t′ ≡ length t → length r′ ≡ length r
+  pub going-next : (z : Reported) (t′ r′ : List ℕ) → i < n → n ≤ length a₀ → Makes h (callIn (drop (callSize * i) l) r) t r t′ r′ z → length t′ ≡ length t → length r′ ≡ length r
       → Going n l h₀ t₀ a₀ r₀ (z .head) t′ (set a i (z .number)) r′ (i + 1)
   unfolding carried
-  going-next z t′ r′ q m (ez, et, er) lt lr =
+  going-next z t′ r′ q m made lt lr =
       let d : n - i ≡ suc (n - suc i) = omega arith in
       let m5 : callSize * i + callSize ≡ callSize * suc i = omega arith in
       let k : drop callSize (drop (callSize * i) l) ≡ drop (callSize * suc i) l = drop-drop callSize (callSize * i) l ∙ ap (λ (j : ℕ). drop j l) m5 in
       let long : i < length a = rw (g .answers-length) (omega arith) in
       record {
         inside = omega arith;
-        numbers = rw (add-one, take-suc-set a i (z .number) long, append-assoc, ez, et, er, ← k) (rw d at (g .numbers));
-        head = rw (add-one, ez, et, er, ← k) (rw d at (g .head));
-        table = rw (add-one, ez, et, er, ← k) (rw d at (g .table));
-        room = rw (add-one, ez, et, er, ← k) (rw d at (g .room));
+        numbers = rw (add-one, take-suc-set a i (z .number) long, append-assoc, made .answer, made .table, made .room, ← k) (rw d at (g .numbers));
+        head = rw (add-one, made .answer, made .table, made .room, ← k) (rw d at (g .head));
+        table = rw (add-one, made .answer, made .table, made .room, ← k) (rw d at (g .table));
+        room = rw (add-one, made .answer, made .table, made .room, ← k) (rw d at (g .room));
         behind = rw (add-one, drop-set-lt (suc i) a i (z .number) (omega arith)) (one-less (g .behind));
         table-length = lt ∙ g .table-length;
         answers-length = length-set a i (z .number) ∙ g .answers-length;
@@ -113,14 +94,19 @@ module _ (n : ℕ) (l : List ℕ) (h₀ : Head) (t₀ a₀ r₀ : List ℕ) (h :
           let j : i + 1 ≡ suc i = add-one i in
           ap (λ (k : ℕ). drop k a) (sym j) ∙ sym (drop-drop 1 i a) ∙ ap (drop 1) e ∙ drop-drop 1 i a₀ ∙ ap (λ (k : ℕ). drop k a₀) j
 
-  pub going-end : n ≤ i → (h ≡ all .head) × (t ≡ all .table) × (a ≡ all .numbers ++ drop n a₀) × (r ≡ all .room)
+  pub going-end : n ≤ i → MakesAll n l h₀ t₀ a₀ r₀ t a r h
   unfolding carried
   going-end q =
       let d : n - i ≡ 0 = omega arith in
       let e : i ≡ n = omega (arith, g .inside) in
       let u : take i a ≡ all .numbers = sym (append-nil (take i a)) ∙ (rw d at (g .numbers)) in
       let w : a ≡ all .numbers ++ drop i a₀ = sym (take-append-drop i a) ∙ rw (u, g .behind) in
-      (rw d at (g .head), rw d at (g .table), w ∙ ap (λ (k : ℕ). all .numbers ++ drop k a₀) e, rw d at (g .room))
+      record {
+        head = rw d at (g .head);
+        table = rw d at (g .table);
+        answers = w ∙ ap (λ (k : ℕ). all .numbers ++ drop k a₀) e;
+        room = rw d at (g .room);
+      }
 
 -- what is left is the journal of the calls
 journal-is : (n : ℕ) (l : List ℕ) (h : Head) (t r : List ℕ) → let j = callsOn h t (callsIn n l h t r) in ((carried n l h t r) .head ≡ j .head) × ((carried n l h t r) .table ≡ j .table)
@@ -139,8 +125,7 @@ module _ (rule size : ℕ) (l t a r : List ℕ) (o : Opened) (eo : o ≡ opening
       record { refused = λ u. (eo, refl, refl, refl); done = λ z. absurd (nz (n ∙ z)); demand = λ z. absurd (nz (n ∙ z)) }
 
   pub carry-done : o .number ≡ 0 → (n : ℕ) → n ≡ countCalls l a → (h : Head) (t′ a′ r′ : List ℕ)
-      → let k = carried n l (o .head) t r in (h ≡ k .head) × (t′ ≡ k .table) × (a′ ≡ k .numbers ++ drop n a) × (r′ ≡ k .room)
-      → CarriesOut rule size l t a r (record { number = 0; head = h }) t′ a′ r′
+      → MakesAll n l (o .head) t a r t′ a′ r′ h → CarriesOut rule size l t a r (record { number = 0; head = h }) t′ a′ r′
   carry-done z n en h t′ a′ r′ p =
       let e = ap (λ (x : Opened). x .number) eo in
       let f = ap (λ (x : Opened). x .head) eo in
@@ -148,6 +133,6 @@ module _ (rule size : ℕ) (l t a r : List ℕ) (o : Opened) (eo : o ≡ opening
       let q = rw (en, f) at p in
       record {
         refused = λ u. absurd (u (sym e ∙ z));
-        done = λ u. (ap (λ (x : Head). record { number = 0; head = x }) (q .0), q .1, q .2, q .3);
-        demand = λ u. (q .0 ∙ j .0, q .1 ∙ j .1, demand-3 rule size u t _);
+        done = λ u. (ap (λ (x : Head). record { number = 0; head = x }) (q .head), q .table, q .answers, q .room);
+        demand = λ u. (q .head ∙ j .0, q .table ∙ j .1, demand-3 rule size u t _);
       }

@@ -10,25 +10,39 @@ use lib.ListN.{length, getD, drop}
 use Rattle.book.specs.declared.Head.{Head}
 use Rattle.book.specs.declared.Opened.{Opened}
 use Rattle.book.specs.Head.{opening}
-use Rattle.book.specs.Reports.{heldBy, spread, whole}
-use Rattle.book.specs.Calls.{Call, move, ask}
-use Rattle.book.specs.Memory.{Outcome, callOn, transferOf}
+use Rattle.book.specs.declared.Report.{Report}
+use Rattle.book.specs.declared.Report.the-variants.{Held, Spread, Whole}
+use Rattle.book.specs.declared.Reported.{Reported}
+use Rattle.book.specs.Transfer.{transferOf}
+use Rattle.book.specs.Calls.{Call, post, ask}
+use Rattle.book.specs.Memory.{Outcome, callOn, reported}
 use Rattle.book.specs.Lists.{callsOn, Demand3}
 
 abbrev pub callSize : ℕ
 callSize = 5
 
--- the call in the first five numbers, lent this room
+-- the report of a kind, with its arguments
+abbrev pub reportOf : ℕ → ℕ → ℕ → ℕ → Report
+reportOf kind a b c = cond (eqb kind 1) (Held a) (cond (eqb kind 2) (Spread a b c) Whole)
+
+-- the call of a kind, with its arguments and the room that it is lent
+abbrev pub callOf : ℕ → ℕ → ℕ → ℕ → ℕ → List ℕ → Call
+callOf kind a b c d room = cond (eqb kind 0) (post (transferOf a b c d)) (ask (reportOf kind a b c) room)
+
+-- the call in the first five numbers
 unfoldable pub callIn : List ℕ → List ℕ → Call
-callIn l room =
-    cond (eqb (getD l 0 0) 0) (move (transferOf (getD l 1 0) (getD l 2 0) (getD l 3 0) (getD l 4 0)))
-    (cond (eqb (getD l 0 0) 1) (ask (heldBy (getD l 1 0)) room)
-    (cond (eqb (getD l 0 0) 2) (ask (spread (getD l 1 0) (getD l 2 0) (getD l 3 0)) room) (ask whole room)))
+callIn l room = callOf (getD l 0 0) (getD l 1 0) (getD l 2 0) (getD l 3 0) (getD l 4 0) room
 
 -- the room after a call: a transfer has none to write to
 abbrev pub roomLeft : Call → Outcome → List ℕ → List ℕ
-roomLeft (move x) o room = room
+roomLeft (post x) o room = room
 roomLeft (ask q r) o room = o .room
+
+-- What one call promises: its number and the next head, and table and room after it.
+pub record Makes (h : Head) (c : Call) (t r t′ r′ : List ℕ) (z : Reported) : Type 0 where
+  pub answer : z ≡ reported (callOn h t c)
+  pub table : t′ ≡ (callOn h t c) .table
+  pub room : r′ ≡ roomLeft c (callOn h t c) r
 
 -- What is left after n calls, and the number of each.
 pub record Carried : Type 0 where
@@ -54,6 +68,13 @@ callsIn (suc n) l h t room =
     let c = callIn l room in
     let o = callOn h t c in
     c ∷ callsIn n (drop callSize l) (o .head) (o .table) (roomLeft c o room)
+
+-- What n calls in turn promise: the head, and table, answers and room after them.
+pub record MakesAll (n : ℕ) (calls : List ℕ) (h : Head) (t a r t′ a′ r′ : List ℕ) (h′ : Head) : Type 0 where
+  pub head : h′ ≡ (carried n calls h t r) .head
+  pub table : t′ ≡ (carried n calls h t r) .table
+  pub answers : a′ ≡ (carried n calls h t r) .numbers ++ drop n a
+  pub room : r′ ≡ (carried n calls h t r) .room
 
 -- how many calls there are numbers and answers for
 abbrev pub countCalls : List ℕ → List ℕ → ℕ

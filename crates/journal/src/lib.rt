@@ -1,13 +1,13 @@
 // A list of calls carried out on a fresh book, from a lent slice of numbers.
 ghost use mathlib.Core.Path.{_≡_};
-ghost use mathlib.Core.List.{_++_};
 ghost use Prim.Native.Nat.{_≤_, _+_, _*_, min};
 ghost use lib.ListN.{length, drop};
-ghost use Rattle.book.specs.Memory.{callOn, reported};
-ghost use Rattle.journal.specs.Carried.{callSize, callIn, roomLeft, carried, CarriesOut};
+ghost use Rattle.journal.specs.Carried.{callSize, reportOf, callIn, Makes, MakesAll, CarriesOut};
 use book::Head;
 use book::Opened;
+use book::Report;
 use book::Reported;
+use book::Transfer;
 use book::opening;
 
 // A call is five numbers: its kind and its arguments.
@@ -19,12 +19,24 @@ const HELD: u32 = 1;
 
 const SPREAD: u32 = 2;
 
+// The report of a kind.
+fn report_of(kind: u32, a: u32, b: u32, c: u32) -> Report
+    ensures { λ r. ⌜ r ≡ reportOf kind a b c ⌝ }
+{
+    if kind == HELD {
+        return Report::Held(a);
+    }
+    if kind == SPREAD {
+        return Report::Spread(a, b, c);
+    }
+    Report::Whole
+}
+
 // The call in the five numbers from `at` on.
 fn call_at(head: Head, table: &mut [u32], calls: &[u32], at: usize, room: &mut [u32]) -> Reported
     requires { ⌜ at + callSize ≤ length (now calls) ⌝ }
-    ensures { λ r. ⌜ (r ≡ reported (callOn head (now (table .entry)) (callIn (drop at (now (calls .entry))) (now (room .entry)))))
-        × (now (table .exit) ≡ (callOn head (now (table .entry)) (callIn (drop at (now (calls .entry))) (now (room .entry)))) .table)
-        × (now (room .exit) ≡ roomLeft (callIn (drop at (now (calls .entry))) (now (room .entry))) (callOn head (now (table .entry)) (callIn (drop at (now (calls .entry))) (now (room .entry)))) (now (room .entry))) ⌝ }
+    ensures { λ r. ⌜ Makes head (callIn (drop at (now (calls .entry))) (now (room .entry)))
+        (now (table .entry)) (now (room .entry)) (now (table .exit)) (now (room .exit)) r ⌝ }
 {
     let kind = calls[at];
     let a = calls[at + 1];
@@ -32,20 +44,21 @@ fn call_at(head: Head, table: &mut [u32], calls: &[u32], at: usize, room: &mut [
     let c = calls[at + 3];
     let d = calls[at + 4];
     if kind == TRANSFER {
-        let r = posting::transfer(head, table, a, b, c, d);
+        let x = Transfer {
+            source: a,
+            destination: b,
+            minute: c,
+            weight: d,
+        };
+        let r = posting::transfer(head, table, x);
         let next = r.head;
         return Reported {
             number: r.number,
             head: next,
         };
     }
-    if kind == HELD {
-        return reports::held(head, table, a, room);
-    }
-    if kind == SPREAD {
-        return reports::spread(head, table, a, b, c, room);
-    }
-    reports::whole(head, table, room)
+    let asked = report_of(kind, a, b, c);
+    reports::report(head, table, asked, room)
 }
 
 // The first n calls in turn; the number of each goes to `answers`.
@@ -58,10 +71,8 @@ fn call_all(
     room: &mut [u32],
 ) -> Head
     requires { ⌜ (callSize * n ≤ length (now calls)) × (n ≤ length (now answers)) ⌝ }
-    ensures { λ r. ⌜ (r ≡ (carried n (now (calls .entry)) fresh (now (table .entry)) (now (room .entry))) .head)
-        × (now (table .exit) ≡ (carried n (now (calls .entry)) fresh (now (table .entry)) (now (room .entry))) .table)
-        × (now (answers .exit) ≡ (carried n (now (calls .entry)) fresh (now (table .entry)) (now (room .entry))) .numbers ++ drop n (now (answers .entry)))
-        × (now (room .exit) ≡ (carried n (now (calls .entry)) fresh (now (table .entry)) (now (room .entry))) .room) ⌝ }
+    ensures { λ r. ⌜ MakesAll n (now (calls .entry)) fresh (now (table .entry)) (now (answers .entry)) (now (room .entry))
+        (now (table .exit)) (now (answers .exit)) (now (room .exit)) r ⌝ }
 {
     let mut head = fresh;
     let mut i: usize = 0;
@@ -93,7 +104,8 @@ pub fn carry_out(
     answers: &mut [u32],
     room: &mut [u32],
 ) -> Opened
-    ensures { λ r. ⌜ CarriesOut rule vessels (now (calls .entry)) (now (table .entry)) (now (answers .entry)) (now (room .entry)) r (now (table .exit)) (now (answers .exit)) (now (room .exit)) ⌝ }
+    ensures { λ r. ⌜ CarriesOut rule vessels (now (calls .entry)) (now (table .entry)) (now (answers .entry)) (now (room .entry))
+        r (now (table .exit)) (now (answers .exit)) (now (room .exit)) ⌝ }
 {
     let opened = opening::open(rule, vessels);
     if opened.number != 0 {

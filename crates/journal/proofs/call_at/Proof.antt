@@ -1,6 +1,6 @@
--- `journal::call_at` meets its contract: the kind tells the call, and each call keeps its own promise.
+-- `call_at` meets its contract: the kind tells the call, and each call keeps its own promise.
 -- Assumes nothing.
-use Rattle.journal.proofs.Carrying.{did-transfer, did-report, as-held, as-spread, as-whole}
+use Rattle.journal.proofs.Carrying.{made-transfer, made-report}
 use borrow.Author.Needs.{needs}
 use Rattle.journal.proofs.call_at.Statement.{statement}
 use Rattle.journal.proofs.call_at.Tie as tie
@@ -54,14 +54,13 @@ same-length : tie.Need-same-length
 same-length c = search needs
 
 returns : tie.Need-returns
-returns c =
-    let x = c .before .before .before in
-    let k = x .before .before in
-    let s = k .before .before .before .before .before .before .before .before .before in
-    did-transfer (s .args .head) (s .args .table .now) (s .args .calls .now) (s .args .at) (s .args .room .now) (k .if1 .taken) _ _ (x .transfer .ensures)
+returns c = search (needs, made-transfer)
 
-held-requires : tie.Need-held-requires
-held-requires c κs = search needs
+report-of-requires : tie.Need-report-of-requires
+report-of-requires c κs = search needs
+
+report-requires : tie.Need-report-requires
+report-requires c κs = search needs
 
 same-length-2 : tie.Need-same-length-2
 same-length-2 c = search needs
@@ -70,48 +69,7 @@ same-length-3 : tie.Need-same-length-3
 same-length-3 c = search needs
 
 returns-2 : tie.Need-returns-2
-returns-2 c =
-    let x = c .before .before in
-    let k = x .before .before .before in
-    let e = k .before in
-    let s = e .before .before .before .before .before .before .before .before .before in
-    did-report (s .args .head) (s .args .table .now) (s .args .calls .now) (s .args .at) (s .args .room .now) _ (as-held (s .args .head) (s .args .table .now) (s .args .calls .now) (s .args .at) (s .args .room .now) (e .if1 .left) (k .if2 .taken)) _ _ (x .held .ensures)
-
-spread-requires : tie.Need-spread-requires
-spread-requires c κs = search needs
-
-same-length-4 : tie.Need-same-length-4
-same-length-4 c = search needs
-
-same-length-5 : tie.Need-same-length-5
-same-length-5 c = search needs
-
-returns-3 : tie.Need-returns-3
-returns-3 c =
-    let x = c .before .before in
-    let k = x .before .before .before in
-    let f = k .before in
-    let e = f .before in
-    let s = e .before .before .before .before .before .before .before .before .before in
-    did-report (s .args .head) (s .args .table .now) (s .args .calls .now) (s .args .at) (s .args .room .now) _ (as-spread (s .args .head) (s .args .table .now) (s .args .calls .now) (s .args .at) (s .args .room .now) (e .if1 .left) (f .if2 .left) (k .if3 .taken)) _ _ (x .spread .ensures)
-
-whole-requires : tie.Need-whole-requires
-whole-requires c κs = search needs
-
-same-length-6 : tie.Need-same-length-6
-same-length-6 c = search needs
-
-same-length-7 : tie.Need-same-length-7
-same-length-7 c = search needs
-
-returns-4 : tie.Need-returns-4
-returns-4 c =
-    let x = c .before .before in
-    let k = x .before .before .before in
-    let f = k .before in
-    let e = f .before in
-    let s = e .before .before .before .before .before .before .before .before .before in
-    did-report (s .args .head) (s .args .table .now) (s .args .calls .now) (s .args .at) (s .args .room .now) _ (as-whole (s .args .head) (s .args .table .now) (s .args .calls .now) (s .args .at) (s .args .room .now) (e .if1 .left) (f .if2 .left) (k .if3 .left)) _ _ (x .whole .ensures)
+returns-2 c = search (needs, made-report)
 
 pub call-at-spec : {M : Type 1} → statement M
 call-at-spec =
@@ -134,15 +92,8 @@ call-at-spec =
     transfer-requires
     same-length
     returns
-    held-requires
+    report-of-requires
+    report-requires
     same-length-2
     same-length-3
-    returns-2
-    spread-requires
-    same-length-4
-    same-length-5
-    returns-3
-    whole-requires
-    same-length-6
-    same-length-7
-    returns-4)
+    returns-2)
