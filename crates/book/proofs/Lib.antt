@@ -1,3 +1,4 @@
+pub mod FreshBook
 pub mod Balances
 pub mod Checks
 pub mod Step

@@ -14,6 +14,13 @@ use Rattle.refusal.specs.Numbers.{TOP, Check, _if_, first}
 use Rattle.book.specs.declared.Head.{Head}
 use Rattle.book.specs.declared.Opened.{Opened}
 
+-- The rules are numbered from 0 to `lastRule`, and a book has 1 to `mostVessels` vessels.
+abbrev pub lastRule : ℕ
+lastRule = 3
+
+abbrev pub mostVessels : ℕ
+mostVessels = 64
+
 -- Every number of a head in memory is one of 32 bits. (So it is of any head that the code is given; the code's promises pass it on.)
 pub record Sized (h : Head) : Type 0 where
   pub light : (v : ℕ) → getD (h .balances) v 0 ≤ TOP
@@ -93,7 +100,7 @@ abbrev pub notOpened : ℕ → Opened
 notOpened n = record { number = n; head = emptyHead 0 0 }
 
 abbrev pub openChecks : ℕ → ℕ → List Check
-openChecks rule size = 2 if ltb 3 rule ∷ 3 if ltb size 1 ∷ 3 if ltb 64 size ∷ []
+openChecks rule size = 2 if ltb lastRule rule ∷ 3 if ltb size 1 ∷ 3 if ltb mostVessels size ∷ []
 
 abbrev pub opens : ℕ → ℕ → ℕ → Opened
 opens rule size zero = record { number = 0; head = emptyHead rule size }

@@ -1,6 +1,7 @@
 // Opening a book.
 ghost use mathlib.Core.Path.{_≡_};
-ghost use Rattle.book.specs.Head.{emptyHead, notOpened, opening};
+ghost use Rattle.refusal.specs.Numbers.{first};
+ghost use Rattle.book.specs.Head.{openChecks, emptyHead, notOpened, opening};
 use super::Head;
 use super::Opened;
 
@@ -33,18 +34,29 @@ fn refused(number: u32) -> Opened
     }
 }
 
+// The first check that a rule and a count of vessels fail, or 0.
+pub fn open_number(rule: u32, vessels: u32) -> u32
+    ensures { λ r. ⌜ r ≡ first (openChecks rule vessels) ⌝ }
+{
+    if LAST_RULE < rule {
+        return refusal::RULE_UNKNOWN;
+    }
+    if vessels < 1 {
+        return refusal::VESSEL_COUNT; // no vessel at all
+    }
+    if VESSELS < vessels {
+        return refusal::VESSEL_COUNT; // more than a head has balances for
+    }
+    0
+}
+
 // A fresh book under the rule, with this many vessels.
 pub fn open(rule: u32, vessels: u32) -> Opened
     ensures { λ r. ⌜ r ≡ opening rule vessels ⌝ }
 {
-    if LAST_RULE < rule {
-        return refused(refusal::RULE_UNKNOWN);
-    }
-    if vessels < 1 {
-        return refused(refusal::VESSEL_COUNT);
-    }
-    if VESSELS < vessels {
-        return refused(refusal::VESSEL_COUNT);
+    let number = open_number(rule, vessels);
+    if number != 0 {
+        return refused(number);
     }
     Opened {
         number: 0,
