@@ -1,8 +1,3 @@
 -- Laws that belong to no one function.
 pub mod SheetPut
 pub mod WriteLaws
-pub mod WrittenReads
-pub mod ReadRewrites
-pub mod RoundTrip
-pub mod TakenNumbers
-pub mod RewriteLaws

@@ -12,12 +12,12 @@ use Rattle.names.specs.Names.{shortName}
 use Rattle.fields.specs.Movements.{givenSize, givenIn}
 use Rattle.sheet.specs.Sheet.{ruleOf, vesselsOf, movementsOf, readNumber}
 use Rattle.sheet.specs.Answers.{reading, movementAnswer, movementAt, movementAsked, nameBytes, nameAsked}
 use Rattle.writing.specs.Writing.{countGiven, sheetOf, writeNumber, written}
-use Rattle.writing.specs.Rewriting.{namesOf, numbersOf}
+use Rattle.roundtrip.specs.Rewriting.{namesOf, numbersOf}
 use Rattle.writing.proofs.WriteLaws.{write-starts}
 use Rattle.fields.proofs.BackLaws.{Below}
-use Rattle.writing.proofs.WrittenReads as there
-use Rattle.writing.proofs.ReadRewrites as again
+use Rattle.roundtrip.proofs.WrittenReads as there
+use Rattle.roundtrip.proofs.ReadRewrites as again
 
 -- What reading and asking give for a sheet of that rule and these vessels, names and numbers.
 pub record ReadBack (rule vessels : ℕ) (names numbers s : List ℕ) : Type 0 where

@@ -6,10 +6,10 @@ use lib.ListN.{length, drop}
 use lib.Seq.{sets}
 use Rattle.fields.specs.Movements.{givenSize, numbersIn}
 use Rattle.sheet.specs.Sheet.{entriesRead}
-use Rattle.writing.specs.Rewriting.{numbersOf}
-use Rattle.writing.proofs.TakenNumbers.{numbers-turn, numbers-end}
-use Rattle.writing.proofs.numbers.take_numbers.Statement.{statement}
-use Rattle.writing.proofs.numbers.take_numbers.Tie as tie
+use Rattle.roundtrip.specs.Rewriting.{numbersOf}
+use Rattle.roundtrip.proofs.TakenNumbers.{numbers-turn, numbers-end}
+use Rattle.roundtrip.proofs.take_numbers.Statement.{statement}
+use Rattle.roundtrip.proofs.take_numbers.Tie as tie
 
 abbrev Inv-loop : tie.InvT-loop
 Inv-loop sheet movements numbers₀ i₀ numbers i =

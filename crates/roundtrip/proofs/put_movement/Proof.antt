@@ -2,9 +2,9 @@
 use borrow.Author.Needs.{needs}
 use native.Mathlib.Omega.{arith}
 use lib.ListN.{length-set}
-use Rattle.writing.proofs.TakenNumbers.{four-put}
-use Rattle.writing.proofs.numbers.put_movement.Statement.{statement}
-use Rattle.writing.proofs.numbers.put_movement.Tie as tie
+use Rattle.roundtrip.proofs.TakenNumbers.{four-put}
+use Rattle.roundtrip.proofs.put_movement.Statement.{statement}
+use Rattle.roundtrip.proofs.put_movement.Tie as tie
 
 mul-numbers : tie.Need-mul-numbers
 mul-numbers c = search needs

@@ -18,14 +18,14 @@ use Rattle.names.specs.Names.{namesIn, namesOff}
 use Rattle.fields.specs.Movements.{givenSize, entrySize, noEntry, givenIn, entryIn, entriesGiven, entriesBytes, entriesChecks, numbersIn}
 use Rattle.sheet.specs.Sheet.{entriesRead, ruleOf, vesselsOf, movementsOf, noSheet, readNumber}
 use Rattle.sheet.specs.Answers.{movementAnswer, movementAt}
 use Rattle.writing.specs.Writing.{countGiven, headerBytes, sheetOf, givenOff, countChecks, contentChecks, roomCheck, writeNumber}
-use Rattle.writing.specs.Rewriting.{namesOf, numbersOf}
+use Rattle.roundtrip.specs.Rewriting.{namesOf, numbersOf}
 use Rattle.fields.proofs.CheckLaws.{neither, passes}
 use Rattle.fields.proofs.GroupLaws.{group-at, length-groups, groups-append}
 use Rattle.sheet.proofs.HeaderLaws.{out-none}
 use Rattle.sheet.proofs.ReadLaws.{Laid, good, good-names, good-entries}
 use Rattle.sheet.proofs.AnswerLaws.{entry-of}
 use Rattle.writing.proofs.WriteLaws.{named-entries}
 use Rattle.fields.proofs.BackLaws.{Below, below-drop, back-at, back-movements, back-given}
 use Rattle.fields.proofs.EntryLaws.{all-sound}
 

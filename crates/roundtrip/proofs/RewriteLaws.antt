@@ -18,9 +18,9 @@ use Rattle.sheet.specs.Sheet.{ruleOf, vesselsOf, movementsOf, readNumber}
 use Rattle.sheet.specs.Answers.{headerOf, reading}
 use Rattle.sheet.proofs.ReadLaws.{Laid, good}
 use Rattle.sheet.proofs.AnswerLaws.{asked-refused, asked-good, read-zero, read-vessels, read-movements, header}
 use Rattle.writing.specs.Writing.{countGiven, sheetOf, writeNumber, written}
-use Rattle.writing.specs.Rewriting.{namesOf, numbersOf, rewriteNumber, rewritten}
-use Rattle.writing.proofs.ReadRewrites as again
+use Rattle.roundtrip.specs.Rewriting.{namesOf, numbersOf, rewriteNumber, rewritten}
+use Rattle.roundtrip.proofs.ReadRewrites as again
 
 -- The memory that `rewrite` lends for the numbers: large enough for any sheet.
 abbrev pub memory : List ℕ

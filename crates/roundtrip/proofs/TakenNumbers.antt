@@ -12,7 +12,7 @@ use Rattle.fields.proofs.PutLaws.{each-turn, each-end}
 use Rattle.sheet.specs.declared.answer.Movement.{Movement}
 use Rattle.sheet.specs.Sheet.{vesselsOf, movementsOf, entriesRead}
 use Rattle.sheet.specs.Answers.{movementAt}
-use Rattle.writing.specs.Rewriting.{movementNumbers}
+use Rattle.roundtrip.specs.Rewriting.{movementNumbers}
 
 -- four numbers put one behind the other
 pub four-put : (l : List ℕ) (at a b c d : ℕ) → set (set (set (set l at a) (at + 1) b) (at + 2) c) (at + 3) d ≡ sets l at (a ∷ b ∷ c ∷ d ∷ [])

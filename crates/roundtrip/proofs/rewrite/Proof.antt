@@ -1,10 +1,10 @@
 -- Refused by the sheet's own number. Else the memory holds the numbers of any sheet, the sheet holds its names, and what was read is written.
 -- That each byte of the sheet is below 256 is known of any slice of bytes.
 use native.Mathlib.Omega.{arith}
-use Rattle.writing.proofs.RewriteLaws.{again-refused, take-fits, names-fit, numbers-fit, again-good}
+use Rattle.roundtrip.proofs.RewriteLaws.{again-refused, take-fits, names-fit, numbers-fit, again-good}
 use borrow.Author.Needs.{needs}
-use Rattle.writing.proofs.rewrite.Statement.{statement}
-use Rattle.writing.proofs.rewrite.Tie as tie
+use Rattle.roundtrip.proofs.rewrite.Statement.{statement}
+use Rattle.roundtrip.proofs.rewrite.Tie as tie
 
 read-requires : tie.Need-read-requires
 read-requires c κs = search needs
