@@ -28,7 +28,7 @@ back-number (suc w) x r h =
     omega (arith, ih)
 
 -- bytes through the number in them
-pub back-bytes : (w : ℕ) (l : List ℕ) → w ≤ length l → Below 256 l → bytesOf w (valueIn w l) ++ drop w l ≡ l
+back-bytes : (w : ℕ) (l : List ℕ) → w ≤ length l → Below 256 l → bytesOf w (valueIn w l) ++ drop w l ≡ l
 unfolding valueIn bytesOf
 back-bytes zero l h b = refl
 back-bytes (suc w) [] h b = absurd (omega arith)
@@ -51,7 +51,7 @@ pub record Fit (e : Entry) : Type 0 where
   pub weight : e .weight < 4294967296
 
 -- a movement through its bytes
-pub back-entry : (e : Entry) (r : List ℕ) → Fit e → entryIn (entryBytes e ++ r) ≡ e
+back-entry : (e : Entry) (r : List ℕ) → Fit e → entryIn (entryBytes e ++ r) ≡ e
 unfolding bytesOf
 back-entry e r f =
     let l = entryBytes e ++ r in

@@ -14,7 +14,7 @@ use Rattle.book.proofs.Memory.{same-refl, same-eq}
 use Rattle.fields.specs.Bytes.{valueIn, bytesOf}
 
 -- a wider number is made of two
-pub value-join : (w v : ℕ) (l : List ℕ) → valueIn (w + v) l ≡ valueIn w l + 256 ^ w * valueIn v (drop w l)
+value-join : (w v : ℕ) (l : List ℕ) → valueIn (w + v) l ≡ valueIn w l + 256 ^ w * valueIn v (drop w l)
 unfolding valueIn
 value-join zero v l = simp (zero-add, one-mul, pow-zero)
 value-join (suc w) v l =

@@ -45,7 +45,7 @@ letters-then s n r e z t =
     t ∙ ap allZero (rest-part s n) ∙ simp (e, p)
 
 -- the eight bytes from which vessel i's name is read
-pub name-part : (l : List ℕ) (vessels i : ℕ) → i < vessels → take (nameSize * i + nameSize - nameSize * i) (drop (nameSize * i) l) ≡ nameAt vessels l i
+name-part : (l : List ℕ) (vessels i : ℕ) → i < vessels → take (nameSize * i + nameSize - nameSize * i) (drop (nameSize * i) l) ≡ nameAt vessels l i
 name-part l vessels i h = rw (add-sub-cancel-left, group-at nameSize (take nameSize) vessels l i [] h)
 
 -- a comparison of two parts compares two names

@@ -1,26 +1,27 @@
 -- The ways out of `rewrite`: the sheet's own number; or what was read is written, where only the room may be short, and what is written is the sheet.
 -- Assumes nothing.
 use Prim.Native.Nat.{ℕ, _+_, _*_, _-_, _≤_}
-use native.Mathlib.Nat.{zero-add, sub-zero, add-sub-cancel-left}
+use native.Mathlib.Nat.{sub-zero, add-sub-cancel-left}
 use native.Mathlib.Omega.{arith}
-use mathlib.Core.Path.{_≡_, refl, sym, ap, _∙_}
+use mathlib.Core.Path.{_≡_, refl, sym, _∙_}
 use mathlib.Core.List.{List, _++_}
 use lib.Dec.{ltb}
 use lib.ListN.{length, take, drop, replicate, length-replicate}
 use lib.Seq.{sets, sets-eq, length-sets, take-at}
-use Rattle.refusal.specs.Numbers.{_if_, ifZero}
+use Rattle.refusal.specs.Numbers.{_if_}
 use Rattle.fields.specs.Movements.{givenSize}
-use Rattle.fields.specs.Layout.{headerSize, nameSize, nameStart, sheetSize, mostMovements}
+use Rattle.fields.specs.Layout.{headerSize, nameStart, sheetSize, mostMovements}
 use Rattle.fields.proofs.CheckLaws.{not-zero}
 use Rattle.fields.proofs.BackLaws.{Below}
 use Rattle.sheet.specs.declared.answer.Reading.{Reading}
 use Rattle.sheet.specs.Sheet.{ruleOf, vesselsOf, movementsOf, readNumber}
-use Rattle.sheet.specs.Answers.{headerOf, reading}
+use Rattle.sheet.specs.Answers.{reading}
 use Rattle.sheet.proofs.ReadLaws.{Laid, good}
 use Rattle.sheet.proofs.AnswerLaws.{asked-refused, asked-good, read-zero, read-vessels, read-movements, header}
-use Rattle.writing.specs.Writing.{countGiven, sheetOf, writeNumber, written}
+use Rattle.writing.specs.Writing.{countGiven, writeNumber, written}
 use Rattle.roundtrip.specs.Rewriting.{namesOf, numbersOf, rewriteNumber, rewritten}
 use Rattle.roundtrip.proofs.ReadRewrites as again
+use Rattle.roundtrip.proofs.RoundTrip.{read-rewrites}
 
 -- The memory that `rewrite` lends for the numbers: large enough for any sheet.
 abbrev pub memory : List ℕ
@@ -81,4 +82,4 @@ module _ (s out : List ℕ) (r : Reading) (e : r ≡ reading s) where
         again-good n out′ p =
             let q : (n ≡ writeNumber (ruleOf s) (vesselsOf s) (namesOf s) (numbersOf s) (length out)) × (out′ ≡ written (ruleOf s) (vesselsOf s) (namesOf s) (numbersOf s) out) =
             rw (names-part, numbers-part, header s r e z) at p in
-            (q .0 ∙ number, q .1 ∙ rw (number, again.rewrites s reads bytes, same-size))
+            (q .0 ∙ number, q .1 ∙ rw (number, read-rewrites s reads bytes .bytes, same-size))

@@ -72,7 +72,7 @@ module _ (s : List ℕ) (r : Reading) (e : r ≡ reading s) where
     index-good index h = rw (← read-movements) h
 
     -- the check of an index, of either kind
-    pub asked-past : (number count index : ℕ) → count ≤ index → number ≡ askedNumber s (number if leb count index)
+    asked-past : (number count index : ℕ) → count ≤ index → number ≡ askedNumber s (number if leb count index)
     asked-past number count index h = rw (asked-good, le-leb count index h)
 
     pub asked-inside : (number count index : ℕ) → index < count → 0 ≡ askedNumber s (number if leb count index)

@@ -13,7 +13,7 @@ use Rattle.names.specs.Names.{letters, wellFormed}
 use Rattle.sheet.specs.Sheet.{layoutOff, noSheet, readNumber}
 
 -- The names `A`, `B~` and `C`; from 1 to 2 at minute 1, 3 grams; from 2 to 0 at minute 258, 5 grams.
-pub bytes : List ℕ
+unfoldable pub bytes : List ℕ
 bytes =
     80 ∷ 82 ∷ 79 ∷ 86 ∷ 2 ∷ 0 ∷ 3 ∷ 0 ∷ 2 ∷ 0 ∷ 0 ∷ 0 ∷ 24 ∷ 0 ∷ 0 ∷ 0 ∷ 48 ∷ 0 ∷ 0 ∷ 0 ∷ 72 ∷ 0 ∷ 0 ∷ 0
     ∷ 65 ∷ 0 ∷ 0 ∷ 0 ∷ 0 ∷ 0 ∷ 0 ∷ 0

@@ -14,7 +14,7 @@ use Rattle.refusal.proofs.Numbers.{named, passed}
 use Rattle.fields.specs.declared.entries.Entry.{Entry}
 use Rattle.fields.specs.Layout.{nameSize, leastMovements, mostMovements, sheetSize, movementsOff, Within}
 use Rattle.names.specs.Names.{namesIn, namesOff}
-use Rattle.fields.specs.Movements.{givenSize, entrySize, givenIn, entriesGiven, entryBytes, entriesBytes, entriesChecks}
+use Rattle.fields.specs.Movements.{givenSize, entrySize, givenIn, entriesGiven, entriesBytes, entriesChecks}
 use Rattle.book.specs.Head.{openChecks}
 use Rattle.writing.specs.Writing.{countGiven, givenOff, countChecks, contentChecks, roomCheck, writeNumber, sheetOf, written}
 use Rattle.fields.proofs.CheckLaws.{neither, same-if, past, not-zero, refuses, passes, passed-first, passed-second}
