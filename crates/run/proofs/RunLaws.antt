@@ -23,12 +23,13 @@ use Rattle.sheet.specs.declared.answer.Movement.{Movement}
 use Rattle.sheet.specs.declared.answer.Reading.{Reading}
 use Rattle.run.specs.declared.Ran.{Ran}
 use Rattle.sheet.specs.Answers.{headerOf, refusedReading, reading, movementAt}
-use Rattle.sheet.specs.Movements.{entrySize}
-use Rattle.sheet.specs.Sheet.{ruleOf, vesselsOf, movementsOf, entriesStart, readNumber}
+use Rattle.fields.specs.Movements.{entrySize}
+use Rattle.fields.specs.Layout.{entriesStart}
+use Rattle.sheet.specs.Sheet.{ruleOf, vesselsOf, movementsOf, readNumber}
 use Rattle.run.specs.Run.{transferIn, transferAt, transfersOf, Running, ended, goOn, runFrom, runNumber, running}
-use Rattle.sheet.proofs.CheckLaws.{not-zero}
+use Rattle.fields.proofs.CheckLaws.{not-zero}
 use Rattle.sheet.proofs.ReadLaws.{good}
-use Rattle.sheet.proofs.GroupLaws.{length-groups, group-at, next-group}
+use Rattle.fields.proofs.GroupLaws.{length-groups, group-at, next-group}
 
 -- the transfer at index i, and those behind it
 abbrev noTransfer : Transfer
@@ -125,9 +126,7 @@ module _ (split born : ℕ) where
 
 -- a sheet that reads well opens a book
 pub opens-well : (s : List ℕ) → readNumber s ≡ 0 → first (openChecks (ruleOf s) (vesselsOf s)) ≡ 0
-opens-well s e =
-    let l = good s 0 (sym e) refl in
-    rw (le-ltb 3 (ruleOf s) (l .rule), le-ltb (vesselsOf s) 1 (l .vessels .0), le-ltb 64 (vesselsOf s) (l .vessels .1))
+opens-well s e = good s 0 (sym e) refl .opens
 
 -- `run`, at its returns: r is what reading yields.
 module _ (s t : List ℕ) (r : Reading) (er : r ≡ reading s) where

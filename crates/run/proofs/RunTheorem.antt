@@ -17,8 +17,8 @@ use Rattle.book.proofs.Memory.{refused-memory}
 use Rattle.book.proofs.Lists.{opened-demand}
 use Rattle.sheet.specs.Sheet.{ruleOf, vesselsOf, movementsOf, readNumber}
 use Rattle.run.specs.Run.{transfersOf, Running, goOn, runFrom, runNumber, running}
-use Rattle.sheet.proofs.CheckLaws.{first-zero}
-use Rattle.sheet.proofs.GroupLaws.{length-groups}
+use Rattle.fields.proofs.CheckLaws.{first-zero}
+use Rattle.fields.proofs.GroupLaws.{length-groups}
 use Rattle.run.proofs.RunLaws.{opens-well}
 
 -- the first n transfers, as calls

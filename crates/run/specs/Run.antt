@@ -12,10 +12,11 @@ use Rattle.book.specs.Head.{emptyHead}
 use Rattle.book.specs.Calls.{move, evenOf}
 use Rattle.book.specs.Memory.{Outcome, callOn}
 use Rattle.run.specs.declared.Ran.{Ran}
-use Rattle.sheet.specs.declared.entries.Entry.{Entry}
-use Rattle.sheet.specs.Bytes.{groups}
-use Rattle.sheet.specs.Movements.{entrySize, entryIn}
-use Rattle.sheet.specs.Sheet.{ruleOf, vesselsOf, movementsOf, entriesStart, readNumber}
+use Rattle.fields.specs.declared.entries.Entry.{Entry}
+use Rattle.fields.specs.Bytes.{groups}
+use Rattle.fields.specs.Movements.{entrySize, entryIn}
+use Rattle.fields.specs.Layout.{entriesStart}
+use Rattle.sheet.specs.Sheet.{ruleOf, vesselsOf, movementsOf, readNumber}
 
 -- the transfer that a movement of the sheet is
 abbrev pub toTransfer : Entry → Transfer

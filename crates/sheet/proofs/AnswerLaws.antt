@@ -13,15 +13,15 @@ use Rattle.refusal.specs.Numbers.{Check, _if_, first, ifZero}
 use Rattle.refusal.proofs.Numbers.{passed}
 use Rattle.sheet.specs.declared.answer.Reading.{Reading}
 use Rattle.sheet.specs.declared.answer.Movement.{Movement}
-use Rattle.sheet.specs.declared.entries.Entry.{Entry}
-use Rattle.sheet.specs.Names.{nameSize, letters, shortName}
-use Rattle.sheet.specs.Movements.{entrySize, entryIn, noEntry}
-use Rattle.sheet.specs.Sheet.{entriesRead, namesRead, headerSize, nameStart, entriesStart, ruleOf, vesselsOf, movementsOf, readNumber}
-use Rattle.sheet.specs.Answers.{headerOf, refusedReading, reading, answer, askedNumber, movementAt, movementNumber, movementAsked, nameNumber, nameBytes, nameAsked}
-use Rattle.sheet.proofs.CheckLaws.{not-zero, first-zero}
-use Rattle.sheet.proofs.GroupLaws.{group-at, length-groups}
-use Rattle.sheet.proofs.EntryLaws.{Sound, all-sound}
-use Rattle.sheet.proofs.ReadLaws.{good, good-entries}
+use Rattle.fields.specs.declared.entries.Entry.{Entry}
+use Rattle.fields.specs.Layout.{nameSize, headerSize, nameStart, entriesStart}
+use Rattle.names.specs.Names.{letters, shortName}
+use Rattle.fields.specs.Movements.{entrySize, entryIn, noEntry}
+use Rattle.sheet.specs.Sheet.{entriesRead, namesRead, ruleOf, vesselsOf, movementsOf, readNumber}
+use Rattle.sheet.specs.Answers.{headerOf, refusedReading, reading, movementAnswer, askedNumber, movementAt, movementNumber, movementAsked, nameNumber, nameBytes, nameAsked, namePlace}
+use Rattle.fields.proofs.CheckLaws.{not-zero, first-zero}
+use Rattle.fields.proofs.GroupLaws.{group-at}
+use Rattle.sheet.proofs.ReadLaws.{good}
 
 pub header-says : (s : List ℕ) (rule vessels movements : ℕ) → rule ≡ ruleOf s → vessels ≡ vesselsOf s → movements ≡ movementsOf s
     → _≡_ {A = Reading} record { number = 0; rule = rule; vessels = vessels; movements = movements } (headerOf s)
@@ -55,7 +55,7 @@ module _ (s : List ℕ) (r : Reading) (e : r ≡ reading s) where
     pub read-zero : readNumber s ≡ 0
     read-zero = sym read-number ∙ z
 
-    header : r ≡ headerOf s
+    pub header : r ≡ headerOf s
     header = e ∙ rw read-zero
 
     pub read-vessels : r .vessels ≡ vesselsOf s
@@ -64,7 +64,7 @@ module _ (s : List ℕ) (r : Reading) (e : r ≡ reading s) where
     pub read-movements : r .movements ≡ movementsOf s
     read-movements = ap (λ (x : Reading). x .movements) header
 
-    asked-good : (check : Check) → askedNumber s check ≡ first (check ∷ [])
+    pub asked-good : (check : Check) → askedNumber s check ≡ first (check ∷ [])
     unfolding askedNumber
     asked-good check = rw read-zero
 
@@ -72,7 +72,7 @@ module _ (s : List ℕ) (r : Reading) (e : r ≡ reading s) where
     index-good index h = rw (← read-movements) h
 
     -- the check of an index, of either kind
-    pub asked-past : (number count index : ℕ) → count ≤ index → number ≡ askedNumber s (number if leb count index)
+    asked-past : (number count index : ℕ) → count ≤ index → number ≡ askedNumber s (number if leb count index)
     asked-past number count index h = rw (asked-good, le-leb count index h)
 
     pub asked-inside : (number count index : ℕ) → index < count → 0 ≡ askedNumber s (number if leb count index)
@@ -80,14 +80,14 @@ module _ (s : List ℕ) (r : Reading) (e : r ≡ reading s) where
 
 -- the ways out of `movement`
 module _ (s : List ℕ) (r : Reading) (index : ℕ) (e : r ≡ reading s) (m : Movement) where
-  refused : (n : ℕ) → n ≡ movementNumber s index → (n ≡ 0 → ⊥) → m ≡ answer n noEntry → m ≡ movementAsked s index
-  refused n en h em = em ∙ rw (← en) (not-zero n (movementAt s index) (answer n noEntry) h)
+  refused : (n : ℕ) → n ≡ movementNumber s index → (n ≡ 0 → ⊥) → m ≡ movementAnswer n noEntry → m ≡ movementAsked s index
+  refused n en h em = em ∙ rw (← en) (not-zero n (movementAt s index) (movementAnswer n noEntry) h)
 
-  pub movement-refused : (r .number ≡ 0 → ⊥) → m ≡ answer (r .number) noEntry → m ≡ movementAsked s index
+  pub movement-refused : (r .number ≡ 0 → ⊥) → m ≡ movementAnswer (r .number) noEntry → m ≡ movementAsked s index
   movement-refused h em = refused (r .number) (asked-refused s r e (20 if leb (movementsOf s) index) h) h em
 
   module _ (z : r .number ≡ 0) where
-    pub movement-past : r .movements ≤ index → m ≡ answer 20 noEntry → m ≡ movementAsked s index
+    pub movement-past : r .movements ≤ index → m ≡ movementAnswer 20 noEntry → m ≡ movementAsked s index
     movement-past h em =
         refused 20 (asked-past s r e z 20 (movementsOf s) index (rw (← read-movements s r e z) h)) (λ q. omega arith) em
 
@@ -107,7 +107,7 @@ module _ (s : List ℕ) (index vessels : ℕ) (ev : vessels ≡ vesselsOf s) whe
   pub entry-fits : readNumber s ≡ 0 → index < movementsOf s → entriesStart vessels + entrySize * index + entrySize ≤ length s
   entry-fits z h = let l = good s _ refl z in omega arith
 
-  pub movement-says : (e : Entry) → e ≡ entryIn (drop (entriesStart vessels + entrySize * index) s) → answer 0 e ≡ movementAt s index
+  pub movement-says : (e : Entry) → e ≡ entryIn (drop (entriesStart vessels + entrySize * index) s) → movementAnswer 0 e ≡ movementAt s index
   movement-says e ee = rw (ee, ev)
 
 -- the ways out of `name`
@@ -115,7 +115,13 @@ module _ (s : List ℕ) (vessel n : ℕ) (e : n ≡ nameNumber s vessel) where
   pub name-none : (n ≡ 0 → ⊥) → [] ≡ nameAsked s vessel
   name-none h = rw (← e) (not-zero n (shortName (nameBytes s vessel)) [] h)
 
+  pub place-none : (n ≡ 0 → ⊥) → (p : ℕ) → 0 + p ≡ namePlace s vessel + p
+  place-none h p = ap (λ (k : ℕ). k + p) (rw (← e) (not-zero n (nameStart vessel) 0 h))
+
   module _ (z : n ≡ 0) where
+    pub place-at : (p : ℕ) → nameStart vessel + p ≡ namePlace s vessel + p
+    place-at p = rw (← e, z)
+
     pub name-fits : nameStart vessel + nameSize ≤ length s
     unfolding askedNumber
     name-fits =
@@ -139,15 +145,11 @@ module _ (s : List ℕ) (vessel n : ℕ) (e : n ≡ nameNumber s vessel) where
           rw (← e, z, add-sub-cancel-left, ← ec′, take-take count nameSize (drop (nameStart vessel) s) few)
 
 -- the movements and the names of a sheet, each by its index
-pub entry-of : (s : List ℕ) (i : ℕ) → i < movementsOf s → movementAt s i ≡ answer 0 (getD (entriesRead s) i noEntry)
+pub entry-of : (s : List ℕ) (i : ℕ) → i < movementsOf s → movementAt s i ≡ movementAnswer 0 (getD (entriesRead s) i noEntry)
 entry-of s i h =
     let d = drop (entriesStart (vesselsOf s)) s in
     let e : drop (entrySize * i) d ≡ drop (entriesStart (vesselsOf s) + entrySize * i) s = drop-drop (entrySize * i) (entriesStart (vesselsOf s)) s in
-    sym (ap (answer 0) (group-at entrySize entryIn (movementsOf s) d i noEntry h ∙ ap entryIn e))
+    sym (ap (movementAnswer 0) (group-at entrySize entryIn (movementsOf s) d i noEntry h ∙ ap entryIn e))
 
 pub name-of : (s : List ℕ) (v : ℕ) → v < vesselsOf s → nameBytes s v ≡ getD (namesRead s) v []
 name-of s v h = rw (group-at nameSize (take nameSize) (vesselsOf s) (drop headerSize s) v [] h, drop-drop)
-
--- the vessels of each movement of a sheet that reads well are vessels of it
-pub movement-sound : (s : List ℕ) (i : ℕ) → readNumber s ≡ 0 → i < movementsOf s → Sound (vesselsOf s) (getD (entriesRead s) i noEntry)
-movement-sound s i z h = all-sound (vesselsOf s) (entriesRead s) (good-entries s z) i (rw length-groups h)

@@ -1,7 +1,7 @@
 -- Laws of the header: what each check tells once it is passed, and the number at each way out. Assumes nothing.
 use Prim.Native.Nat.{ℕ, _≤_}
 use native.Mathlib.Omega.{arith}
-use mathlib.Core.Path.{_≡_, refl, sym, ap, _∙_}
+use mathlib.Core.Path.{_≡_, sym, ap, _∙_}
 use mathlib.Core.Bool.{Bool, true, false, not}
 use mathlib.Core.List.{List, [], _∷_, _++_}
 use borrow.Author.Tests.{ltb-false, eq-eqb, ne-eqb, le-ltb}
@@ -9,44 +9,58 @@ use lib.Dec.{eqb, ltb}
 use lib.ListN.{length, take, drop}
 use Rattle.refusal.specs.Numbers.{_if_, first}
 use Rattle.refusal.proofs.Numbers.{passed}
-use Rattle.sheet.specs.Bytes.{valueIn, equal}
-use Rattle.sheet.specs.Sheet.{leastVessels, vesselsOff, mostVessels, headerSize, sheetSize, entriesStart, mark, ruleOf, vesselsOf, movementsOf, noSheet, outside, openChecks, layoutOff, fieldChecks, headerChecks}
-use Rattle.sheet.proofs.ByteLaws.{is-equal}
-use Rattle.sheet.proofs.CheckLaws.{neither, refuses, passes}
+use Rattle.book.specs.Head.{same, lastRule, mostVessels, openChecks}
+use Rattle.fields.specs.Bytes.{valueIn}
+use Rattle.fields.specs.Layout.{mark, markSize, headerSize, namesAt, entriesAt, lengthAt, sheetSize, entriesStart, leastMovements, mostMovements, movementsOff}
+use Rattle.sheet.specs.Sheet.{ruleOf, vesselsOf, movementsOf, noSheet, layoutOff, fieldChecks, headerChecks}
+use Rattle.fields.proofs.ByteLaws.{is-same}
+use Rattle.fields.proofs.CheckLaws.{neither, refuses, passes}
 
-pub unmarked : (s letters : List ℕ) (r : Bool) → headerSize ≤ length s → letters ≡ mark → (r ≡ true → take 4 s ≡ letters) → (take 4 s ≡ letters → r ≡ true) → not r ≡ noSheet s
+pub unmarked : (s letters : List ℕ) (r : Bool) → headerSize ≤ length s → letters ≡ mark
+    → (r ≡ true → take markSize s ≡ letters) → (take markSize s ≡ letters → r ≡ true) → not r ≡ noSheet s
 unfolding noSheet
-unmarked s letters r h e f g = rw (le-ltb _ _ h, ← e) (ap not (is-equal (take 4 s) letters r f g))
+unmarked s letters r h e f g = rw (le-ltb _ _ h, ← e) (ap not (is-same (take markSize s) letters r f g))
 
 pub sheet-holds : (s : List ℕ) (k : ℕ) (r : Bool) → r ≡ noSheet s → r ≡ false → k ≤ headerSize → k ≤ length s
 unfolding noSheet
 sheet-holds s k r e q h =
-    omega (arith, ltb-false (length s) headerSize (neither (ltb (length s) headerSize) (not (equal (take 4 s) mark)) (sym e ∙ q) .0))
+    omega (arith, ltb-false (length s) headerSize (neither (ltb (length s) headerSize) (not (same (take markSize s) mark)) (sym e ∙ q) .0))
 
-pub inside : (least most n : ℕ) (r : Bool) → r ≡ outside least most n → r ≡ false → (least ≤ n) × (n ≤ most)
-unfolding outside
-inside least most n r e q =
-    let h = neither (ltb n least) (ltb most n) (sym e ∙ q) in
+pub some-movements : (n : ℕ) → movementsOff n ≡ false → (leastMovements ≤ n) × (n ≤ mostMovements)
+unfolding movementsOff
+some-movements n e =
+    let h = neither (ltb n leastMovements) (ltb mostMovements n) e in
     (ltb-false _ _ (h .0), ltb-false _ _ (h .1))
 
-pub at-most : (least most n : ℕ) (r : Bool) → r ≡ outside least most n → r ≡ false → n ≤ most
-at-most least most n r e q = inside least most n r e q .1
+-- What a rule and a count of vessels are that pass opening's checks.
+pub record Openable (rule vessels : ℕ) : Type 0 where
+  pub rule-known : rule ≤ lastRule
+  pub some-vessels : 1 ≤ vessels
+  pub few-vessels : vessels ≤ mostVessels
+
+pub openable : (rule vessels : ℕ) → first (openChecks rule vessels) ≡ 0 → Openable rule vessels
+openable rule vessels e =
+    let p = passed (openChecks rule vessels) tt e in
+    record { rule-known = ltb-false _ _ (p .0); some-vessels = ltb-false _ _ (p .1 .0); few-vessels = ltb-false _ _ (p .1 .1 .0) }
 
 pub few-vessels : (rule vessels n : ℕ) → n ≡ first (openChecks rule vessels) → n ≡ 0 → vessels ≤ mostVessels
-few-vessels rule vessels n e z = at-most leastVessels mostVessels vessels false (sym (passed (openChecks rule vessels) tt (sym e ∙ z) .1 .0)) refl
+few-vessels rule vessels n e z = openable rule vessels (sym e ∙ z) .few-vessels
+
+pub few-movements : (n : ℕ) (r : Bool) → r ≡ movementsOff n → r ≡ false → n ≤ mostMovements
+few-movements n r e q = some-movements n (sym e ∙ q) .1
 
 -- the ways out of `layout_off`
-module _ (s : List ℕ) (vessels movements names : ℕ) (en : names ≡ valueIn 4 (drop 12 s)) where
+module _ (s : List ℕ) (vessels movements names : ℕ) (en : names ≡ valueIn 4 (drop namesAt s)) where
   pub names-elsewhere : (names ≡ headerSize → ⊥) → true ≡ layoutOff vessels movements s
   unfolding layoutOff
   names-elsewhere h = rw (← en, ne-eqb _ _ h)
 
-  module _ (start : ℕ) (es : start ≡ valueIn 4 (drop 16 s)) (hn : names ≡ headerSize) where
+  module _ (start : ℕ) (es : start ≡ valueIn 4 (drop entriesAt s)) (hn : names ≡ headerSize) where
     pub entries-elsewhere : (start ≡ entriesStart vessels → ⊥) → true ≡ layoutOff vessels movements s
     unfolding layoutOff
     entries-elsewhere h = rw (← en, ← es, eq-eqb _ _ hn, ne-eqb _ _ h)
 
-    module _ (size : ℕ) (el : size ≡ valueIn 4 (drop 20 s)) (hs : start ≡ entriesStart vessels) where
+    module _ (size : ℕ) (el : size ≡ valueIn 4 (drop lengthAt s)) (hs : start ≡ entriesStart vessels) where
       pub other-length : (size ≡ sheetSize vessels movements → ⊥) → true ≡ layoutOff vessels movements s
       unfolding layoutOff
       other-length h = rw (← en, ← es, ← el, eq-eqb _ _ hn, eq-eqb _ _ hs, ne-eqb _ _ h)
@@ -54,14 +68,6 @@ module _ (s : List ℕ) (vessels movements names : ℕ) (en : names ≡ valueIn 
       pub real-length : size ≡ sheetSize vessels movements → not (eqb (length s) (sheetSize vessels movements)) ≡ layoutOff vessels movements s
       unfolding layoutOff
       real-length h = rw (← en, ← es, ← el, eq-eqb _ _ hn, eq-eqb _ _ hs, eq-eqb _ _ h)
-
--- the two ways out of `open_number` behind the rule
-module _ (rule vessels : ℕ) (r : Bool) (h : rule ≤ 3) (e : r ≡ vesselsOff vessels) where
-  pub out-vessels : r ≡ true → 3 ≡ first (openChecks rule vessels)
-  out-vessels q = rw (le-ltb _ _ h, ← e, q)
-
-  pub out-opens : r ≡ false → 0 ≡ first (openChecks rule vessels)
-  out-opens q = rw (le-ltb _ _ h, ← e, q)
 
 -- the ways out of two checks behind those of the rule and the vessels: of the reader's and of the writer's counts
 module _ (rule vessels n p q : ℕ) (b d : Bool) (en : n ≡ first (openChecks rule vessels)) where

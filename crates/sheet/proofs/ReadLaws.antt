@@ -5,30 +5,30 @@ use native.Mathlib.Omega.{arith}
 use mathlib.Core.Path.{_≡_, refl, sym, _∙_}
 use mathlib.Core.Bool.{Bool, true, false, not}
 use mathlib.Core.List.{List, [], _∷_, _++_}
-use borrow.Author.Tests.{ltb-false}
 use lib.Dec.{eqb}
 use lib.ListN.{length, take, drop}
 use Rattle.refusal.specs.Numbers.{Check, _if_, first}
 use Rattle.refusal.proofs.Numbers.{passed}
-use Rattle.sheet.specs.Bytes.{valueIn}
-use Rattle.sheet.specs.Names.{namesIn, namesOff}
-use Rattle.sheet.specs.Movements.{entriesIn, entriesChecks}
-use Rattle.sheet.specs.Sheet.{entriesRead, namesRead, leastMovements, leastVessels, mostMovements, mostVessels, headerSize, ruleOf, vesselsOf, movementsOf, entriesStart, sheetSize, layoutOff, noSheet, movementsOff, openChecks, headerChecks, bodyChecks, readNumber}
-use Rattle.sheet.proofs.CheckLaws.{neither, same-if, past, refuses, passes, passed-first, passed-second}
-use Rattle.sheet.proofs.ByteLaws.{rest-part}
-use Rattle.sheet.proofs.HeaderLaws.{inside}
+use Rattle.fields.specs.Bytes.{valueIn}
+use Rattle.names.specs.Names.{namesIn, namesOff}
+use Rattle.fields.specs.Movements.{entriesIn, entriesChecks}
+use Rattle.book.specs.Head.{openChecks}
+use Rattle.fields.specs.Layout.{leastMovements, mostMovements, headerSize, namesAt, entriesAt, lengthAt, entriesStart, sheetSize, movementsOff, Within}
+use Rattle.sheet.specs.Sheet.{entriesRead, namesRead, ruleOf, vesselsOf, movementsOf, layoutOff, noSheet, headerChecks, bodyChecks, readNumber}
+use Rattle.fields.proofs.CheckLaws.{neither, same-if, past, refuses, passes, passed-first, passed-second}
+use Rattle.fields.proofs.ByteLaws.{rest-part}
+use Rattle.sheet.proofs.HeaderLaws.{Openable, openable, some-movements}
 
 -- What a header lays down that passes its checks.
 pub record Laid (s : List ℕ) : Type 0 where
   pub marked : noSheet s ≡ false
   pub opens : first (openChecks (ruleOf s) (vesselsOf s)) ≡ 0
   pub inside : movementsOff (movementsOf s) ≡ false
-  pub rule : ruleOf s ≤ 3
-  pub vessels : (leastVessels ≤ vesselsOf s) × (vesselsOf s ≤ mostVessels)
+  pub opened : Openable (ruleOf s) (vesselsOf s)
   pub movements : (leastMovements ≤ movementsOf s) × (movementsOf s ≤ mostMovements)
-  pub names : valueIn 4 (drop 12 s) ≡ headerSize
-  pub start : valueIn 4 (drop 16 s) ≡ entriesStart (vesselsOf s)
-  pub field : valueIn 4 (drop 20 s) ≡ sheetSize (vesselsOf s) (movementsOf s)
+  pub names : valueIn 4 (drop namesAt s) ≡ headerSize
+  pub start : valueIn 4 (drop entriesAt s) ≡ entriesStart (vesselsOf s)
+  pub field : valueIn 4 (drop lengthAt s) ≡ sheetSize (vesselsOf s) (movementsOf s)
   pub size : length s ≡ sheetSize (vesselsOf s) (movementsOf s)
 
 abbrev lastChecks : List ℕ → List Check
@@ -37,17 +37,18 @@ lastChecks s = (15 if movementsOff (movementsOf s)) ∷ (16 if layoutOff (vessel
 pub laid : (s : List ℕ) (n : ℕ) → n ≡ first (headerChecks s) → n ≡ 0 → Laid s
 unfolding layoutOff
 laid s n e z =
-    let p = passed (headerChecks s) tt (sym e ∙ z) in
-    let a = neither (not (eqb (valueIn 4 (drop 12 s)) headerSize)) _ (p .1 .1 .1 .1 .0) in
-    let b = neither (not (eqb (valueIn 4 (drop 16 s)) (entriesStart (vesselsOf s)))) _ (a .1) in
-    let c = neither (not (eqb (valueIn 4 (drop 20 s)) (sheetSize (vesselsOf s) (movementsOf s)))) _ (b .1) in
+    let p = past 13 (noSheet s) (openChecks (ruleOf s) (vesselsOf s) ++ lastChecks s) (sym e ∙ z) in
+    let opens = passed-first (openChecks (ruleOf s) (vesselsOf s)) (lastChecks s) tt (p .1) in
+    let q = passed (lastChecks s) tt (passed-second (openChecks (ruleOf s) (vesselsOf s)) (lastChecks s) tt (p .1)) in
+    let a = neither (not (eqb (valueIn 4 (drop namesAt s)) headerSize)) _ (q .1 .0) in
+    let b = neither (not (eqb (valueIn 4 (drop entriesAt s)) (entriesStart (vesselsOf s)))) _ (a .1) in
+    let c = neither (not (eqb (valueIn 4 (drop lengthAt s)) (sheetSize (vesselsOf s) (movementsOf s)))) _ (b .1) in
     record {
       marked = p .0;
-      opens = passed-first (openChecks (ruleOf s) (vesselsOf s)) (lastChecks s) tt (past 13 (noSheet s) (openChecks (ruleOf s) (vesselsOf s) ++ lastChecks s) (sym e ∙ z) .1);
-      inside = p .1 .1 .1 .0;
-      rule = ltb-false 3 (ruleOf s) (p .1 .0);
-      vessels = inside leastVessels mostVessels (vesselsOf s) false (sym (p .1 .1 .0)) refl;
-      movements = inside leastMovements mostMovements (movementsOf s) false (sym (p .1 .1 .1 .0)) refl;
+      opens = opens;
+      inside = q .0;
+      opened = openable (ruleOf s) (vesselsOf s) opens;
+      movements = some-movements (movementsOf s) (q .0);
       names = same-if _ _ (a .0);
       start = same-if _ _ (b .0);
       field = same-if _ _ (c .0);
@@ -59,8 +60,10 @@ pub header-holds : (s : List ℕ) (n k : ℕ) → n ≡ first (headerChecks s) �
 header-holds s n k e z h = let l = laid s n e z in omega arith
 
 pub body-fits : (s : List ℕ) (n vessels movements : ℕ) → n ≡ first (headerChecks s) → n ≡ 0 → vessels ≡ vesselsOf s → movements ≡ movementsOf s
-    → (vessels ≤ mostVessels) × (movements ≤ mostMovements) × (length s ≡ sheetSize vessels movements)
-body-fits s n vessels movements e z ev em = let l = laid s n e z in (omega arith, omega arith, omega arith)
+    → Within vessels movements × (length s ≡ sheetSize vessels movements)
+body-fits s n vessels movements e z ev em =
+    let l = laid s n e z in
+    (record { few-vessels = omega arith; few-movements = omega arith }, omega arith)
 
 -- the ways out of `body_number`
 module _ (s : List ℕ) (vessels movements : ℕ) (off : Bool) (e : off ≡ namesOff (namesIn vessels (take (length s - headerSize) (drop headerSize s)))) where

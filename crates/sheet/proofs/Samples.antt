@@ -1,28 +1,19 @@
--- The definitions on a small sheet, as one table: three vessels, two movements, and one byte changed in each row. Assumes nothing.
+-- Reading's numbers on small sheets, as one table and one theorem: a sheet of three vessels and two movements, then the same with one thing wrong in each row.
+-- Assumes nothing.
 use Prim.Native.Nat.{ℕ}
 use mathlib.Core.Path.{_≡_, refl}
-use mathlib.Core.List.{List, [], _∷_, map}
-use lib.ListN.{set}
-use Rattle.sheet.specs.Bytes.{valueIn, bytesOf, groups, equal, exists}
-use Rattle.sheet.specs.Names.{letters, zeros, wellFormed}
-use Rattle.sheet.specs.Movements.{entriesBytes, entriesChecks}
-use Rattle.sheet.specs.Sheet.{layoutOff, noSheet, outside, readNumber}
-use Rattle.sheet.specs.Writing.{sheetOf}
+use mathlib.Core.List.{List, [], _∷_, _++_, map}
+use lib.ListN.{set, take}
+use Rattle.book.specs.Head.{same}
+use Rattle.book.specs.Audit.{allZero}
+use Rattle.fields.specs.Bytes.{valueIn, groups, exists}
+use Rattle.fields.specs.Movements.{entriesChecks}
+use Rattle.fields.specs.Layout.{movementsOff}
+use Rattle.names.specs.Names.{letters, wellFormed}
+use Rattle.sheet.specs.Sheet.{layoutOff, noSheet, readNumber}
 
--- the names `A`, `B~` and `C` of eight bytes each
-pub names : List ℕ
-names =
-    65 ∷ 0 ∷ 0 ∷ 0 ∷ 0 ∷ 0 ∷ 0 ∷ 0
-    ∷ 66 ∷ 126 ∷ 0 ∷ 0 ∷ 0 ∷ 0 ∷ 0 ∷ 0
-    ∷ 67 ∷ 0 ∷ 0 ∷ 0 ∷ 0 ∷ 0 ∷ 0 ∷ 0
-    ∷ []
-
--- from 1 to 2 at minute 1, 3 grams; from 2 to 0 at minute 258, 5 grams
-pub numbers : List ℕ
-numbers = 1 ∷ 2 ∷ 1 ∷ 3 ∷ 2 ∷ 0 ∷ 258 ∷ 5 ∷ []
-
--- its bytes, as the document lays them out
-pub bytes : List ℕ
+-- The names `A`, `B~` and `C`; from 1 to 2 at minute 1, 3 grams; from 2 to 0 at minute 258, 5 grams.
+unfoldable pub bytes : List ℕ
 bytes =
     80 ∷ 82 ∷ 79 ∷ 86 ∷ 2 ∷ 0 ∷ 3 ∷ 0 ∷ 2 ∷ 0 ∷ 0 ∷ 0 ∷ 24 ∷ 0 ∷ 0 ∷ 0 ∷ 48 ∷ 0 ∷ 0 ∷ 0 ∷ 72 ∷ 0 ∷ 0 ∷ 0
     ∷ 65 ∷ 0 ∷ 0 ∷ 0 ∷ 0 ∷ 0 ∷ 0 ∷ 0
@@ -32,44 +23,59 @@ bytes =
     ∷ 2 ∷ 0 ∷ 0 ∷ 0 ∷ 2 ∷ 1 ∷ 0 ∷ 0 ∷ 5 ∷ 0 ∷ 0 ∷ 0
     ∷ []
 
-pub sample-bytes : sheetOf 2 3 names numbers ≡ bytes
-unfolding names numbers bytes sheetOf bytesOf entriesBytes groups
-sample-bytes = refl
-
--- A byte changed, and the number that reading then gives.
-pub record Change : Type 0 where
-  pub at : ℕ
-  pub value : ℕ
+-- A sheet, and the number that reading it gives.
+pub record Sample : Type 0 where
+  pub sheet : List ℕ
   pub number : ℕ
 
-pub change : ℕ → ℕ → ℕ → Change
-change at value number = record { at = at; value = value; number = number }
+pub sample : ℕ → List ℕ → Sample
+sample number sheet = record { sheet = sheet; number = number }
 
-pub changes : List Change
-changes =
-    change 0 80 0
-    ∷ change 0 81 14
-    ∷ change 4 4 2
-    ∷ change 5 1 2
-    ∷ change 6 0 3
-    ∷ change 6 65 3
-    ∷ change 8 0 15
-    ∷ change 9 17 15
-    ∷ change 12 25 16
-    ∷ change 16 49 16
-    ∷ change 20 73 16
-    ∷ change 8 1 16
-    ∷ change 24 32 17
-    ∷ change 24 0 17
-    ∷ change 31 1 17
-    ∷ change 33 0 0
-    ∷ change 40 65 17
-    ∷ change 50 1 18
-    ∷ change 63 1 18
-    ∷ change 48 3 5
-    ∷ change 61 3 5
+pub samples : List Sample
+samples =
+    sample 0 bytes
+    -- shorter than a header; another mark
+    ∷ sample 14 (take 23 bytes)
+    ∷ sample 14 (set bytes 0 81)
+    ∷ sample 14 (set bytes 3 87)
+    -- the rule, in its low and in its high byte
+    ∷ sample 2 (set bytes 4 4)
+    ∷ sample 2 (set bytes 5 1)
+    -- no vessel, 65 vessels
+    ∷ sample 3 (set bytes 6 0)
+    ∷ sample 3 (set bytes 6 65)
+    -- no movement, 4,098 movements
+    ∷ sample 15 (set bytes 8 0)
+    ∷ sample 15 (set bytes 9 16)
+    -- each cause of 16 by itself: the offset of the names, that of the movements, the length, the real length
+    ∷ sample 16 (set bytes 12 25)
+    ∷ sample 16 (set bytes 16 49)
+    ∷ sample 16 (set bytes 20 73)
+    ∷ sample 16 (take 71 bytes)
+    ∷ sample 16 (bytes ++ (0 ∷ []))
+    -- a name of no letters, one with a letter behind its zeros, one that is no letter, one used twice
+    ∷ sample 17 (set bytes 24 0)
+    ∷ sample 17 (set bytes 31 65)
+    ∷ sample 17 (set bytes 33 127)
+    ∷ sample 17 (set bytes 40 65)
+    ∷ sample 0 (set bytes 33 0)
+    -- a filler, in each of its bytes
+    ∷ sample 18 (set bytes 50 1)
+    ∷ sample 18 (set bytes 63 1)
+    -- no such source, no such destination
+    ∷ sample 5 (set bytes 48 3)
+    ∷ sample 5 (set bytes 61 3)
+    -- two things wrong: the first in document 01's order is given
+    ∷ sample 14 (set (set bytes 0 81) 4 4)
+    ∷ sample 2 (set (set bytes 4 4) 6 0)
+    ∷ sample 3 (set (set bytes 6 0) 8 0)
+    ∷ sample 15 (set (set bytes 8 0) 12 25)
+    ∷ sample 16 (set (set bytes 12 25) 24 0)
+    ∷ sample 17 (set (set bytes 24 0) 50 1)
+    ∷ sample 18 (set (set bytes 48 3) 50 1)
+    ∷ sample 5 (set (set bytes 48 3) 62 1)
     ∷ []
 
-pub sample-numbers : map (λ c. readNumber (set bytes (c .at) (c .value))) changes ≡ map (λ c. c .number) changes
-unfolding change changes bytes readNumber noSheet outside layoutOff valueIn equal groups exists wellFormed letters zeros entriesChecks
+pub sample-numbers : map (λ c. readNumber (c .sheet)) samples ≡ map (λ c. c .number) samples
+unfolding sample samples bytes readNumber noSheet movementsOff layoutOff valueIn same groups exists wellFormed letters allZero entriesChecks
 sample-numbers = refl

@@ -1,6 +1,2 @@
-pub mod Bytes
-pub mod Names
-pub mod Movements
 pub mod Sheet
 pub mod Answers
-pub mod Writing

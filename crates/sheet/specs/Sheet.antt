@@ -1,82 +1,39 @@
--- "The sheet": its header, where its names and movements lie, and the checks in their order. Definitions only. Assumes nothing.
-use mathlib.Core.Bool.{Bool, not}
+-- "The sheet": its header, its names and movements, and the checks in their order. Definitions only. Assumes nothing.
+use mathlib.Core.Bool.{Bool, not, _||_}
 use mathlib.Core.List.{List, [], _∷_, _++_}
-use Prim.Native.Nat.{ℕ, _+_, _*_}
+use Prim.Native.Nat.{ℕ}
 use lib.Dec.{eqb, ltb}
 use lib.ListN.{length, take, drop}
 use Rattle.refusal.specs.Numbers.{Check, _if_, first}
-use Rattle.sheet.specs.declared.entries.Entry.{Entry}
-use Rattle.sheet.specs.Bytes.{valueIn, either, equal}
-use Rattle.sheet.specs.Names.{nameSize, namesIn, namesOff}
-use Rattle.sheet.specs.Movements.{entrySize, entriesIn, entriesChecks}
-
--- "the four letters `PROV`"
-abbrev pub mark : List ℕ
-mark = 0x50 ∷ 0x52 ∷ 0x4f ∷ 0x56 ∷ []
-
-abbrev pub headerSize : ℕ
-headerSize = 24
+use Rattle.book.specs.Head.{same, openChecks}
+use Rattle.fields.specs.declared.entries.Entry.{Entry}
+use Rattle.fields.specs.Bytes.{valueIn}
+use Rattle.fields.specs.Movements.{entriesIn, entriesChecks}
+use Rattle.fields.specs.Layout.{mark, markSize, headerSize, ruleAt, vesselsAt, movementsAt, namesAt, entriesAt, lengthAt, entriesStart, sheetSize, movementsOff}
+use Rattle.names.specs.Names.{namesIn, namesOff}
 
 -- "4: rule (2 bytes). 6: V (2). 8: movement count M (4)."
 abbrev pub ruleOf : List ℕ → ℕ
-ruleOf s = valueIn 2 (drop 4 s)
+ruleOf s = valueIn 2 (drop ruleAt s)
 
 abbrev pub vesselsOf : List ℕ → ℕ
-vesselsOf s = valueIn 2 (drop 6 s)
+vesselsOf s = valueIn 2 (drop vesselsAt s)
 
 abbrev pub movementsOf : List ℕ → ℕ
-movementsOf s = valueIn 4 (drop 8 s)
+movementsOf s = valueIn 4 (drop movementsAt s)
 
--- "offset of names = 24", "offset of movements = 24 + 8V", "length = 24 + 8V + 12M, also the real length"
-abbrev pub nameStart : ℕ → ℕ
-nameStart vessel = headerSize + nameSize * vessel
-
-abbrev pub entriesStart : ℕ → ℕ
-entriesStart vessels = nameStart vessels
-
-abbrev pub sheetSize : ℕ → ℕ → ℕ
-sheetSize vessels movements = entriesStart vessels + entrySize * movements
-
+-- "12: offset of names = 24 (4). 16: offset of movements = 24 + 8V (4). 20: length = 24 + 8V + 12M, also the real length (4)."
 unfoldable pub layoutOff : ℕ → ℕ → List ℕ → Bool
 layoutOff vessels movements s =
-    either (not (eqb (valueIn 4 (drop 12 s)) headerSize))
-    (either (not (eqb (valueIn 4 (drop 16 s)) (entriesStart vessels)))
-    (either (not (eqb (valueIn 4 (drop 20 s)) (sheetSize vessels movements)))
-    (not (eqb (length s) (sheetSize vessels movements)))))
+    not (eqb (valueIn 4 (drop namesAt s)) headerSize)
+    || (not (eqb (valueIn 4 (drop entriesAt s)) (entriesStart vessels))
+    || (not (eqb (valueIn 4 (drop lengthAt s)) (sheetSize vessels movements)) || not (eqb (length s) (sheetSize vessels movements))))
 
 -- "below 24 bytes, or another mark"
 unfoldable pub noSheet : List ℕ → Bool
-noSheet s = either (ltb (length s) headerSize) (not (equal (take 4 s) mark))
+noSheet s = ltb (length s) headerSize || not (same (take markSize s) mark)
 
-unfoldable pub outside : ℕ → ℕ → ℕ → Bool
-outside least most n = either (ltb n least) (ltb most n)
-
--- "rule above 3", "V not 1 to 64", "M not 1 to 4,096"
-abbrev pub mostRule : ℕ
-mostRule = 3
-
-abbrev pub leastVessels : ℕ
-leastVessels = 1
-
-abbrev pub mostVessels : ℕ
-mostVessels = 64
-
-abbrev pub leastMovements : ℕ
-leastMovements = 1
-
-abbrev pub mostMovements : ℕ
-mostMovements = 4096
-
-abbrev pub vesselsOff : ℕ → Bool
-vesselsOff vessels = outside leastVessels mostVessels vessels
-
-abbrev pub movementsOff : ℕ → Bool
-movementsOff movements = outside leastMovements mostMovements movements
-
-abbrev pub openChecks : ℕ → ℕ → List Check
-openChecks rule vessels = (2 if ltb mostRule rule) ∷ (3 if vesselsOff vessels) ∷ []
-
--- The checks of the header's numbers: 2, 3, 15, 16.
+-- The checks of the header's numbers: 2, 3, 15, 16. The first two are those of opening a book.
 abbrev pub fieldChecks : ℕ → ℕ → ℕ → List ℕ → List Check
 fieldChecks rule vessels movements s =
     openChecks rule vessels ++ (15 if movementsOff movements) ∷ (16 if layoutOff vessels movements s) ∷ []

@@ -3,30 +3,20 @@ ghost use mathlib.Core.Path.{_≡_};
 ghost use Prim.Native.Nat.{_≤_};
 ghost use lib.ListN.{length};
 ghost use Rattle.refusal.specs.Numbers.{first};
-ghost use Rattle.sheet.specs.Sheet.{mark, headerSize, mostVessels, mostMovements, noSheet, outside, openChecks, layoutOff, fieldChecks, headerChecks};
-use crate::bytes::read16;
-use crate::bytes::read32;
-use crate::limits::ENTRIES_AT;
-use crate::limits::ENTRY_SIZE;
-use crate::limits::HEADER_SIZE;
-use crate::limits::LEAST_MOVEMENTS;
-use crate::limits::LEAST_VESSELS;
-use crate::limits::LENGTH_AT;
-use crate::limits::MOST_MOVEMENTS;
-use crate::limits::MOST_RULE;
-use crate::limits::MOST_VESSELS;
-use crate::limits::MOVEMENTS_AT;
-use crate::limits::NAME_SIZE;
-use crate::limits::NAMES_AT;
-use crate::limits::RULE_AT;
-use crate::limits::VESSELS_AT;
-
-// The four letters that a sheet begins with.
-pub fn mark() -> [u8; 4]
-    ensures { λ r. ⌜ r ≡ mark ⌝ }
-{
-    *b"PROV"
-}
+ghost use Rattle.fields.specs.Layout.{headerSize, Within};
+ghost use Rattle.sheet.specs.Sheet.{noSheet, layoutOff, fieldChecks, headerChecks};
+use fields::bytes::read16;
+use fields::bytes::read32;
+use fields::layout::ENTRIES_AT;
+use fields::layout::ENTRY_SIZE;
+use fields::layout::HEADER_SIZE;
+use fields::layout::LENGTH_AT;
+use fields::layout::MARK_SIZE;
+use fields::layout::MOVEMENTS_AT;
+use fields::layout::NAME_SIZE;
+use fields::layout::NAMES_AT;
+use fields::layout::RULE_AT;
+use fields::layout::VESSELS_AT;
 
 // Whether the sheet is too short for a header, or begins with another mark.
 fn no_sheet(sheet: &[u8]) -> bool
@@ -35,36 +25,13 @@ fn no_sheet(sheet: &[u8]) -> bool
     if sheet.len() < HEADER_SIZE {
         return true;
     }
-    let letters = mark();
-    !check::same(&sheet[0..4], &letters)
-}
-
-// Whether n is not from `least` to `most`.
-pub fn outside(least: usize, most: usize, n: usize) -> bool
-    ensures { λ r. ⌜ r ≡ outside least most n ⌝ }
-{
-    if n < least {
-        return true;
-    }
-    most < n
-}
-
-// The first check that a rule and a count of vessels fail, or 0.
-pub fn open_number(rule: u32, vessels: u32) -> u32
-    ensures { λ r. ⌜ r ≡ first (openChecks rule vessels) ⌝ }
-{
-    if rule > MOST_RULE {
-        return refusal::RULE_UNKNOWN;
-    }
-    if outside(LEAST_VESSELS, MOST_VESSELS, vessels as usize) {
-        return refusal::VESSEL_COUNT;
-    }
-    0
+    let letters = fields::layout::mark();
+    !check::same(&sheet[0..MARK_SIZE], &letters)
 }
 
 // Whether an offset, the length field or the real length is wrong.
 fn layout_off(sheet: &[u8], vessels: u32, movements: u32) -> bool
-    requires { ⌜ (headerSize ≤ length (now sheet)) × (vessels ≤ mostVessels) × (movements ≤ mostMovements) ⌝ }
+    requires { ⌜ (headerSize ≤ length (now sheet)) × Within vessels movements ⌝ }
     ensures { λ r. ⌜ r ≡ layoutOff vessels movements (now (sheet .entry)) ⌝ }
 {
     let start = HEADER_SIZE + NAME_SIZE * (vessels as usize);
@@ -86,11 +53,11 @@ fn field_number(sheet: &[u8], rule: u32, vessels: u32, movements: u32) -> u32
     requires { ⌜ headerSize ≤ length (now sheet) ⌝ }
     ensures { λ r. ⌜ r ≡ first (fieldChecks rule vessels movements (now (sheet .entry))) ⌝ }
 {
-    let open = open_number(rule, vessels);
+    let open = book::opening::open_number(rule, vessels);
     if open != 0 {
         return open;
     }
-    if outside(LEAST_MOVEMENTS, MOST_MOVEMENTS, movements as usize) {
+    if fields::layout::movements_off(movements as usize) {
         return refusal::MOVEMENTS;
     }
     if layout_off(sheet, vessels, movements) {

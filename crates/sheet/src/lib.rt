@@ -1,30 +1,26 @@
-// The movement sheet: read, asked for a movement or a name, and written.
+// The movement sheet: read, and asked for a movement or a name.
 // Any bytes of any length may come in; a refusal has its number, and all else is 0 or empty.
 ghost use mathlib.Core.Path.{_≡_};
 ghost use Prim.Native.Nat.{_<_, _≤_};
+ghost use denote.Ref.{ptr};
 ghost use lib.ListN.{length};
-ghost use Rattle.sheet.specs.Sheet.{headerSize, movementsOf, readNumber};
-ghost use Rattle.sheet.specs.Writing.{writeNumber, written};
-ghost use Rattle.sheet.specs.Answers.{headerOf, reading, movementAt, movementAsked, nameNumber, nameAsked};
+ghost use Rattle.fields.specs.Layout.{headerSize};
+ghost use Rattle.sheet.specs.Sheet.{movementsOf, readNumber};
+ghost use Rattle.sheet.specs.Answers.{headerOf, reading, movementAt, movementAsked, nameNumber, NamePart};
 use answer::Movement;
 use answer::Reading;
-use bytes::read16;
-use bytes::read32;
-use limits::ENTRY_SIZE;
-use limits::HEADER_SIZE;
-use limits::MOVEMENTS_AT;
-use limits::NAME_SIZE;
-use limits::RULE_AT;
-use limits::VESSELS_AT;
+use fields::bytes::read16;
+use fields::bytes::read32;
+use fields::layout::ENTRY_SIZE;
+use fields::layout::HEADER_SIZE;
+use fields::layout::MOVEMENTS_AT;
+use fields::layout::NAME_SIZE;
+use fields::layout::RULE_AT;
+use fields::layout::VESSELS_AT;
 
 pub mod answer; // answer.rt: what reading a sheet and asking for a movement yield
-mod bytes; // bytes.rt: numbers in bytes, the low byte first
-mod entries; // entries.rt: the movements, and what a movement must be
 mod header; // header.rt: the header, and what it must be
-mod limits; // limits.rt: the sizes and limits of a sheet
-mod names; // names.rt: the names of the vessels, and what a name must be
 mod reader; // reader.rt: all checks of a sheet, in order
-mod writer; // writer.rt: the checks of what is to be written, and its bytes
 
 // The numbers of a header.
 fn header_read(sheet: &[u8]) -> Reading
@@ -65,7 +61,7 @@ pub fn movement_known(sheet: &[u8], index: u32) -> Movement
 {
     let vessels = read16(sheet, VESSELS_AT) as usize;
     let at = HEADER_SIZE + NAME_SIZE * vessels + ENTRY_SIZE * (index as usize);
-    let e = entries::read_entry(sheet, at);
+    let e = fields::entries::read_entry(sheet, at);
     Movement {
         number: 0,
         source: e.source,
@@ -117,7 +113,7 @@ pub fn name_number(sheet: &[u8], vessel: u32) -> u32
 
 // A vessel's name: that part of the sheet without its zeros, and on any refusal the empty part at the sheet's start.
 pub fn name<'a>(sheet: &'a [u8], vessel: u32) -> &'a [u8]
-    ensures { λ r. ⌜ now r ≡ nameAsked (now (sheet .entry)) vessel ⌝ }
+    ensures { λ r. ⌜ NamePart (now (sheet .entry)) vessel (ptr (sheet .entry)) (now r) (ptr r) ⌝ }
 {
     if name_number(sheet, vessel) != 0 {
         return &sheet[0..0];
@@ -127,17 +123,4 @@ pub fn name<'a>(sheet: &'a [u8], vessel: u32) -> &'a [u8]
     let count = names::letter_count(&sheet[at..end]);
     let stop = at + count;
     &sheet[at..stop]
-}
-
-// Writes a sheet at the start of `out`; the bytes behind it remain, and a refusal writes nothing.
-pub fn write(rule: u32, vessels: u32, names: &[u8], numbers: &[u32], out: &mut [u8]) -> u32
-    ensures number { λ r. ⌜ r ≡ writeNumber rule vessels (now (names .entry)) (now (numbers .entry)) (length (now (out .entry))) ⌝ }
-    ensures bytes { λ _. ⌜ now (out .exit) ≡ written rule vessels (now (names .entry)) (now (numbers .entry)) (now (out .entry)) ⌝ }
-{
-    let number = writer::write_number(rule, vessels, names, numbers, out.len());
-    if number != 0 {
-        return number;
-    }
-    writer::put_sheet(rule, vessels, names, numbers, out);
-    0
 }

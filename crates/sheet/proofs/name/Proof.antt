@@ -1,5 +1,5 @@
 -- Nothing on a refusal; else a sheet without refusal holds the eight bytes, and the letters among them are the part.
-use Rattle.sheet.proofs.AnswerLaws.{name-none, name-fits, stop-fits, name-says}
+use Rattle.sheet.proofs.AnswerLaws.{name-none, place-none, place-at, name-fits, stop-fits, name-says}
 use borrow.Author.Needs.{needs}
 use Rattle.sheet.proofs.name.Statement.{statement}
 use Rattle.sheet.proofs.name.Tie as tie
@@ -17,7 +17,8 @@ part-result-end : tie.Need-part-result-end
 part-result-end c = search needs
 
 returns : tie.Need-returns
-returns c = search (needs, name-none)
+returns c =
+    record { bytes = search (needs, name-none); block = search needs; place = search (needs, place-none) }
 
 mul-at : tie.Need-mul-at
 mul-at c = search needs
@@ -53,7 +54,8 @@ part-result-end-2 : tie.Need-part-result-end-2
 part-result-end-2 c = search (needs, stop-fits)
 
 returns-2 : tie.Need-returns-2
-returns-2 c = search (needs, name-says)
+returns-2 c =
+    record { bytes = search (needs, name-says); block = search needs; place = search (needs, place-at) }
 
 pub name-spec : {M : Type 1} → statement M
 name-spec =

@@ -1,5 +1,5 @@
 -- Each return is the first check that applies. Those passed bound the count of vessels and of movements, which the layout asks for.
-use Rattle.sheet.proofs.HeaderLaws.{out-open, out-one, out-two, out-none, few-vessels, at-most}
+use Rattle.sheet.proofs.HeaderLaws.{out-open, out-one, out-two, out-none, few-vessels, few-movements}
 use borrow.Author.Needs.{needs}
 use Rattle.sheet.proofs.header.field_number.Statement.{statement}
 use Rattle.sheet.proofs.header.field_number.Tie as tie
@@ -10,14 +10,14 @@ open-number-requires c κs = search needs
 returns : tie.Need-returns
 returns c = search (needs, out-open)
 
-outside-requires : tie.Need-outside-requires
-outside-requires c κs = search needs
+movements-off-requires : tie.Need-movements-off-requires
+movements-off-requires c κs = search needs
 
 returns-2 : tie.Need-returns-2
 returns-2 c = search (needs, out-one)
 
 layout-off-requires : tie.Need-layout-off-requires
-layout-off-requires c κs = search (needs, few-vessels, at-most)
+layout-off-requires c κs = search (needs, few-vessels, few-movements)
 
 returns-3 : tie.Need-returns-3
 returns-3 c = search (needs, out-two)
@@ -31,7 +31,7 @@ field-number-spec =
     (tie.spec
     open-number-requires
     returns
-    outside-requires
+    movements-off-requires
     returns-2
     layout-off-requires
     returns-3

@@ -1,0 +1,7 @@
+-- Laws that belong to no one function.
+pub mod CheckLaws
+pub mod ByteLaws
+pub mod GroupLaws
+pub mod EntryLaws
+pub mod PutLaws
+pub mod BackLaws

@@ -1,0 +1,59 @@
+-- The first check that the movements left fail is that of all. The measure is the movements left.
+use borrow.Author.Needs.{needs}
+use Prim.Native.Nat.{_-_, _≤_}
+use mathlib.Core.Path.{_≡_}
+use lib.ListN.{drop}
+use Rattle.refusal.specs.Numbers.{first}
+use Rattle.fields.specs.Movements.{entriesGiven, entriesChecks}
+use Rattle.fields.proofs.EntryLaws.{check-turn, check-stop, check-end}
+use Rattle.fields.proofs.entries.given_number.Statement.{statement}
+use Rattle.fields.proofs.entries.given_number.Tie as tie
+
+abbrev Inv-loop : tie.InvT-loop
+Inv-loop numbers count vessels i₀ i = (i ≤ count) × (first (entriesChecks vessels (drop i (entriesGiven count numbers))) ≡ first (entriesChecks vessels (entriesGiven count numbers)))
+
+abbrev μ-loop : tie.MeasureT-loop
+μ-loop numbers count vessels i₀ i = count - i
+
+loop-holds : tie.Need-loop-holds Inv-loop μ-loop
+loop-holds c = search needs
+
+mul-given : tie.Need-mul-given Inv-loop μ-loop
+mul-given c = search needs
+
+given-requires : tie.Need-given-requires Inv-loop μ-loop
+given-requires c κs = search needs
+
+entry-number-requires : tie.Need-entry-number-requires Inv-loop μ-loop
+entry-number-requires c κs = search needs
+
+returns : tie.Need-returns Inv-loop μ-loop
+returns c = search (needs, check-stop)
+
+add-i : tie.Need-add-i Inv-loop μ-loop
+add-i c = search needs
+
+loop-less : tie.Need-loop-less Inv-loop μ-loop
+loop-less c = search needs
+
+loop-again : tie.Need-loop-again Inv-loop μ-loop
+loop-again c = (search needs, search (needs, check-turn))
+
+returns-2 : tie.Need-returns-2 Inv-loop μ-loop
+returns-2 c = search (needs, check-end)
+
+pub given-number-spec : {M : Type 1} → statement M
+given-number-spec =
+    tie.close
+    (tie.spec
+    Inv-loop
+    μ-loop
+    loop-holds
+    mul-given
+    given-requires
+    entry-number-requires
+    returns
+    add-i
+    loop-less
+    loop-again
+    returns-2)

@@ -1,0 +1,4 @@
+-- Laws that belong to no one function.
+pub mod SheetPut
+pub mod WriteLaws
+pub mod Samples
