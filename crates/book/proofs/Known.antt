@@ -23,6 +23,8 @@ use Rattle.book.proofs.HeadLaws.{Hold, hold, all-sound, same-eq}
 use Rattle.book.proofs.Memory.{On, book-passed}
 
 pub record Known (h : Head) (t : List ℕ) : Type 0 where
+  pub adds-up : addsUp h t ≡ true
+  pub sized : Sized h
   pub sound : SoundBook (placesOf t) (bookOf h t)
   pub on : On (placesOf t) h t (bookOf h t)
   pub few : h .pieces ≤ placesOf t
@@ -33,8 +35,8 @@ pub record Known (h : Head) (t : List ℕ) : Type 0 where
 holders : {size last : ℕ} {ps : _} → All (SoundPiece size last) ps → All (λ p. p .holder < size) ps
 holders x = all-map (λ p f. f .holder-in) x
 
-by-name : (h : Head) (t : List ℕ) → Sized h → Hold (bookTests h t) → Known h t
-by-name h t z (rule, (some, (most, (few, (counted, (fit, (equal, end))))))) =
+by-name : (h : Head) (t : List ℕ) → Sized h → addsUp h t ≡ true → Hold (bookTests h t) → Known h t
+by-name h t z a (rule, (some, (most, (few, (counted, (fit, (equal, end))))))) =
     let ps = piecesOf (h .pieces) t in
     let long = length-pieces (h .pieces) t in
     let pieces = all-sound _ _ ps fit in
@@ -43,6 +45,8 @@ by-name h t z (rule, (some, (most, (few, (counted, (fit, (equal, end))))))) =
     let b = balance-held h (h .vessels) ps (leb-true _ _ most) (holders pieces) m in
     let room = places-fit t (h .pieces) (placesOf t) refl (leb-true _ _ few) in
     record {
+      adds-up = a;
+      sized = z;
       sound = record {
         known = leb-true _ _ rule;
         some-vessel = leb-true 1 _ some;
@@ -62,7 +66,7 @@ by-name h t z (rule, (some, (most, (few, (counted, (fit, (equal, end))))))) =
 
 pub known-up : (h : Head) (t : List ℕ) → Sized h → addsUp h t ≡ true → Known h t
 unfolding addsUp
-known-up h t z a = by-name h t z (hold (bookTests h t) a)
+known-up h t z a = by-name h t z a (hold (bookTests h t) a)
 
 -- as checks 1 and 4 find it
 pub known : (h : Head) (t : List ℕ) (n : ℕ) → (n ≡ first (bookChecks h t)) × Sized h → n ≡ 0 → Known h t

@@ -56,6 +56,14 @@ refused-memory h t c nz = go (numberOf h t c) nz
     go zero nz = absurd (nz refl)
     go (suc n) nz = (refl, refl)
 
+pub refused-even : (h : Head) (t : List ℕ) (c : Call) → ((callOn h t c) .number ≡ 0 → ⊥) → (callOn h t c) .even ≡ 0
+unfolding callOn
+refused-even h t c nz = go (numberOf h t c) nz
+  where
+    go : (n : ℕ) → ((outcome h t c n) .number ≡ 0 → ⊥) → (outcome h t c n) .even ≡ 0
+    go zero nz = absurd (nz refl)
+    go (suc n) nz = refl
+
 -- the number of a call: checks 1 and 4, then its own
 pub number-split : (h : Head) (t : List ℕ) (c : Call)
     → numberOf h t c ≡ ifZero (first (bookChecks h t)) (first (meaning c .checks (placesOf t) (bookOf h t))) (first (bookChecks h t))

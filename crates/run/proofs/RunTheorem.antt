@@ -7,23 +7,23 @@ use Prim.Native.Nat.{ℕ, zero, suc, _+_, _-_, _≤_}
 use native.Mathlib.Omega.{arith}
 use lib.ListN.{length, take, replicate}
 use Rattle.refusal.specs.Numbers.{ifZero}
-use Rattle.picking.specs.Transfer.{Transfer}
 use Rattle.book.specs.declared.Head.{Head}
-use Rattle.book.specs.Head.{emptyHead}
-use Rattle.book.specs.Calls.{Call, move, evenOf}
+use Rattle.book.specs.declared.Transfer.{Transfer}
+use Rattle.book.specs.Head.{openChecks, opening}
+use Rattle.book.specs.Calls.{Call, post}
 use Rattle.book.specs.Memory.{Outcome, callOn}
 use Rattle.book.specs.Lists.{callsOn, evens, numbers, Demand3}
-use Rattle.book.proofs.Memory.{refused-memory}
-use Rattle.book.proofs.Lists.{opened-demand}
+use Rattle.book.proofs.Memory.{refused-memory, refused-even}
+use Rattle.book.proofs.Lists.{demand-3}
 use Rattle.sheet.specs.Sheet.{ruleOf, vesselsOf, movementsOf, readNumber}
 use Rattle.run.specs.Run.{transfersOf, Running, goOn, runFrom, runNumber, running}
 use Rattle.fields.proofs.CheckLaws.{first-zero}
 use Rattle.fields.proofs.GroupLaws.{length-groups}
-use Rattle.run.proofs.RunLaws.{opens-well}
+use Rattle.run.proofs.RunLaws.{opens-well, opened-well}
 
 -- the first n transfers, as calls
 abbrev pub callsFrom : ℕ → List Transfer → List Call
-callsFrom n xs = map move (take n xs)
+callsFrom n xs = map post (take n xs)
 
 -- A run from index i on, against the journal of its transfers tried: so many are accepted, and then one is refused or none is left.
 pub record Folds (i even : ℕ) (h : Head) (t : List ℕ) (xs : List Transfer) (r : Running) : Type 0 where
@@ -49,36 +49,36 @@ folds [] i even h t = record {
   onward = omega arith;
   all-made = λ e. refl;
 }
-folds (x ∷ xs) i even h t = go ((callOn h t (move x)) .number) refl (folds xs)
+folds (x ∷ xs) i even h t = go ((callOn h t (post x)) .number) refl (folds xs)
   where
     u : Outcome
-    u = callOn h t (move x)
+    u = callOn h t (post x)
 
     go : (n : ℕ) → u .number ≡ n → ((i even : ℕ) (h : Head) (t : List ℕ) → Folds i even h t xs (runFrom i even h t xs))
         → Folds i even h t (x ∷ xs) (goOn (λ even′ h′ t′. runFrom (suc i) even′ h′ t′ xs) i even h t x u n)
     go zero e next =
-        let f = next (suc i) (even + evenOf (move x) (u .answer)) (u .head) (u .table) in
-        let k = (runFrom (suc i) (even + evenOf (move x) (u .answer)) (u .head) (u .table) xs) .answer in
+        let f = next (suc i) (even + u .even) (u .head) (u .table) in
+        let k = (runFrom (suc i) (even + u .even) (u .head) (u .table) xs) .answer in
         let d : k .index - i ≡ suc (k .index - suc i) = omega (arith, f .onward) in
         record {
           tried = suc (f .tried);
           index-is = f .index-is ∙ omega arith;
           head-is = f .head-is;
           table-is = f .table-is;
-          even-is = rw e (f .even-is ∙ omega arith);
+          even-is = f .even-is ∙ omega arith;
           numbers-are = rw (e, d) (ap (λ (l : List ℕ). 0 ∷ l) (f .numbers-are));
           onward = omega (arith, f .onward);
           all-made = λ z. ap suc (f .all-made z);
         }
     go (suc n) e next =
-        let m = refused-memory h t (move x) (λ z. omega arith) in
+        let m = refused-memory h t (post x) (λ z. omega arith) in
         let z : i - i ≡ 0 = omega arith in
         record {
           tried = 1;
           index-is = refl;
           head-is = sym (m .0);
           table-is = sym (m .1);
-          even-is = rw e (omega arith);
+          even-is = rw (refused-even h t (post x) (λ z. omega arith)) (omega arith);
           numbers-are = rw (e, z);
           onward = omega arith;
           all-made = λ z. absurd (omega arith);
@@ -86,8 +86,8 @@ folds (x ∷ xs) i even h t = go ((callOn h t (move x)) .number) refl (folds xs)
 
 -- What holds of a run r that is not refused by its sheet or by 1.
 pub record RunOf (s t : List ℕ) (r : Running) : Type 0 where
-  pub folded : Folds 0 0 (emptyHead (ruleOf s) (vesselsOf s)) t (transfersOf s) r
-  pub demand : Demand3 (ruleOf s) (vesselsOf s) t (callsFrom (folded .tried) (transfersOf s)) (callsOn (emptyHead (ruleOf s) (vesselsOf s)) t (callsFrom (folded .tried) (transfersOf s)))
+  pub folded : Folds 0 0 (opening (ruleOf s) (vesselsOf s) .head) t (transfersOf s) r
+  pub demand : Demand3 (ruleOf s) (vesselsOf s) t (callsFrom (folded .tried) (transfersOf s)) (callsOn (opening (ruleOf s) (vesselsOf s) .head) t (callsFrom (folded .tried) (transfersOf s)))
   -- where none is refused the index is M
   pub passed : r .answer .number ≡ 0 → r .answer .index ≡ movementsOf s
 
@@ -97,7 +97,7 @@ module _ (s t : List ℕ) (e : runNumber s t ≡ 0) where
   reads = first-zero (readNumber s) _ e
 
   abbrev run : Running
-  run = runFrom 0 0 (emptyHead (ruleOf s) (vesselsOf s)) t (transfersOf s)
+  run = runFrom 0 0 (opening (ruleOf s) (vesselsOf s) .head) t (transfersOf s)
 
   runs : running s t ≡ run
   unfolding running
@@ -106,9 +106,9 @@ module _ (s t : List ℕ) (e : runNumber s t ≡ 0) where
   pub run-theorem : RunOf s t (running s t)
   run-theorem = rw runs (record {
     folded = f;
-    demand = opened-demand (ruleOf s) (vesselsOf s) (opens-well s reads) t _;
+    demand = demand-3 (ruleOf s) (vesselsOf s) (opened-well s reads) t _;
     passed = λ z. let k = f .all-made z ∙ length-groups _ _ (movementsOf s) _ in omega (arith, rw z at (f .index-is));
   })
     where
-      f : Folds 0 0 (emptyHead (ruleOf s) (vesselsOf s)) t (transfersOf s) run
-      f = folds (transfersOf s) 0 0 (emptyHead (ruleOf s) (vesselsOf s)) t
+      f : Folds 0 0 (opening (ruleOf s) (vesselsOf s) .head) t (transfersOf s) run
+      f = folds (transfersOf s) 0 0 (opening (ruleOf s) (vesselsOf s) .head) t

@@ -3,11 +3,11 @@ ghost use mathlib.Core.Path.{_≡_};
 ghost use Prim.Native.Nat.{_<_, _≤_, _+_};
 ghost use Rattle.refusal.specs.Numbers.{ifZero};
 ghost use Rattle.book.specs.Head.{emptyHead};
-ghost use Rattle.book.specs.Calls.{move};
-ghost use Rattle.book.specs.Memory.{transferred, callOn, Workable};
+ghost use Rattle.posting.specs.Posting.{Posts, Workable};
 ghost use Rattle.sheet.specs.Sheet.{movementsOf, readNumber};
-ghost use Rattle.run.specs.Run.{transferAt, transfersOf, runFrom, running};
+ghost use Rattle.run.specs.Run.{transferAt, transfersOf, Gives, runFrom, running, Runnable};
 use book::Head;
+use book::Transfer;
 use book::Transferred;
 
 // What a run yields: the number of the movement that stopped it or 0, that movement's index or the count of all, the even count, and
@@ -55,21 +55,16 @@ fn make(
     lifted: &mut [u32],
 ) -> Transferred
     requires { ⌜ (readNumber (now sheet) ≡ 0) × (i < movementsOf (now sheet)) × Workable head (now table) (now keys) (now spare) (now lifted) ⌝ }
-    ensures { λ r. ⌜ (r ≡ transferred (callOn head (now (table .entry)) (move (transferAt (now (sheet .entry)) i))))
-        × (now (table .exit) ≡ (callOn head (now (table .entry)) (move (transferAt (now (sheet .entry)) i))) .table) ⌝ }
+    ensures { λ r. ⌜ Posts head (transferAt (now (sheet .entry)) i) (now (table .entry)) (now (table .exit)) r ⌝ }
 {
     let m = sheet::movement_known(sheet, i);
-    posting::transfer_known(
-        head,
-        table,
-        m.source,
-        m.destination,
-        m.minute,
-        m.weight,
-        keys,
-        spare,
-        lifted,
-    )
+    let x = Transfer {
+        source: m.source,
+        destination: m.destination,
+        minute: m.minute,
+        weight: m.weight,
+    };
+    posting::transfer_known(head, table, x, keys, spare, lifted)
 }
 
 // All movements are made in turn, until one is refused.
@@ -82,9 +77,8 @@ fn make_all(
     spare: &mut [u64],
     lifted: &mut [u32],
 ) -> Ran
-    requires { ⌜ (readNumber (now sheet) ≡ 0) × (movements ≡ movementsOf (now sheet)) × (movements ≤ 4096) × Workable fresh (now table) (now keys) (now spare) (now lifted) ⌝ }
-    ensures { λ r. ⌜ (r ≡ (runFrom 0 0 fresh (now (table .entry)) (transfersOf (now (sheet .entry)))) .answer)
-        × (now (table .exit) ≡ (runFrom 0 0 fresh (now (table .entry)) (transfersOf (now (sheet .entry)))) .table) ⌝ }
+    requires { ⌜ Runnable (now sheet) movements fresh (now table) (now keys) (now spare) (now lifted) ⌝ }
+    ensures { λ r. ⌜ Gives (runFrom 0 0 fresh (now (table .entry)) (transfersOf (now (sheet .entry)))) (now (table .exit)) r ⌝ }
 {
     let mut head = fresh;
     let mut even: u32 = 0;
@@ -114,7 +108,7 @@ fn make_all(
 
 // Reads a sheet and makes its movements on a fresh book in the table.
 pub fn run(sheet: &[u8], table: &mut [u32]) -> Ran
-    ensures { λ r. ⌜ (r ≡ (running (now (sheet .entry)) (now (table .entry))) .answer) × (now (table .exit) ≡ (running (now (sheet .entry)) (now (table .entry))) .table) ⌝ }
+    ensures { λ r. ⌜ Gives (running (now (sheet .entry)) (now (table .entry))) (now (table .exit)) r ⌝ }
 {
     let r = sheet::read(sheet);
     if r.number != 0 {
@@ -125,9 +119,9 @@ pub fn run(sheet: &[u8], table: &mut [u32]) -> Ran
     }
     let opened = book::opening::open(r.rule, r.vessels);
     let fresh = opened.head;
-    let mut keys = [0u64; 4096];
-    let mut spare = [0u64; 4096];
-    let mut lifted = [0u32; 16388];
+    let mut keys = [0u64; moving::KEYS];
+    let mut spare = [0u64; moving::KEYS];
+    let mut lifted = [0u32; moving::LIFTED];
     make_all(
         sheet,
         r.movements,

@@ -1,4 +1,5 @@
--- `run::make` meets its contract: the movement read is the transfer made.
+-- `make` meets its contract: the movement read is the transfer made. Places: `start` is the function's own, `read` follows the movement,
+-- `known` the transfer.
 -- Assumes nothing.
 use Rattle.run.proofs.RunLaws.{made-as}
 use borrow.Author.Needs.{needs}
@@ -25,10 +26,10 @@ same-length-4 c = search needs
 
 returns : tie.Need-returns
 returns c =
-    let t = c .before .before .before .before .before .before .before .before in
-    let m = t .before .before .before .before .before in
-    let s = m .before .before .before .before .before .before in
-    made-as (s .args .head) (s .args .table .now) (s .args .sheet .now) (s .args .i) _ _ _ (m .movement-known .ensures) (t .transfer-known .ensures)
+    let known = c .before .before .before .before .before .before .before .before in
+    let read = known .before .before .before .before .before in
+    let start = read .before .before .before .before .before .before in
+    made-as (start .args .head) (start .args .table .now) (start .args .sheet .now) (start .args .i) _ _ _ (read .movement-known .ensures) (known .transfer-known .ensures)
 
 pub make-spec : {M : Type 1} → statement M
 make-spec =

@@ -1,11 +1,11 @@
 -- `run::make_all` meets its contract. The invariant is `Going`: the book is known to add up, and going on from movement i ends as the whole run does.
--- A turn makes one movement; the measure is how many are left.
+-- A turn makes one movement; the measure is how many are left. Places: `start` is the function's own, `loop` the head of the loop, `turn` its test,
+-- `made` follows the movement.
 -- Assumes nothing.
 use borrow.Author.Needs.{needs}
 use Prim.Native.Nat.{_-_}
-use mathlib.Core.Path.{refl}
 use native.Mathlib.Omega.{arith}
-use Rattle.run.proofs.RunLaws.{Going, going-stop, going-next, going-end}
+use Rattle.run.proofs.RunLaws.{Going, going-start, going-makes, going-stop, going-counts, going-next, going-end}
 use Rattle.run.proofs.make_all.Statement.{statement}
 use Rattle.run.proofs.make_all.Tie as tie
 
@@ -17,15 +17,15 @@ abbrev μ-loop : tie.MeasureT-loop
 
 loop-holds : tie.Need-loop-holds Inv-loop μ-loop
 loop-holds c =
-    let s = c .before .before .before .before .before in
-    record { inside = search needs; some-even = search needs; work = s .pre .3; left = refl; table-length = refl; keys-length = refl; spare-length = refl; lifted-length = refl }
+    let start = c .before .before .before .before .before in
+    going-start _ _ _ _ _ _ _ (start .pre)
 
 make-requires : tie.Need-make-requires Inv-loop μ-loop
 make-requires c κs =
-    let l = c .before .before .before .before in
-    let a = l .before in
-    let s = a .before .before .before .before .before .before in
-    (s .pre .0, rw (s .pre .1) at (l .loop-test .taken), a .loop .inv .work)
+    let turn = c .before .before .before .before in
+    let loop = turn .before in
+    let start = loop .before .before .before .before .before .before in
+    going-makes _ _ _ _ _ _ _ _ _ _ _ _ _ _ (loop .loop .inv) (start .pre) (turn .loop-test .taken)
 
 same-length : tie.Need-same-length Inv-loop μ-loop
 same-length c = search needs
@@ -41,44 +41,46 @@ same-length-4 c = search needs
 
 returns : tie.Need-returns Inv-loop μ-loop
 returns c =
-    let m = c .before .before .before .before .before .before .before .before .before .before in
-    let l = m .before .before .before .before .before in
-    let a = l .before in
-    let s = a .before .before .before .before .before .before in
-    going-stop _ _ _ _ _ _ _ _ _ _ _ _ _ _ (a .loop .inv) (s .pre .1) _ _ (l .loop-test .taken) (m .make .ensures .0) (m .make .ensures .1) (c .if1 .taken)
+    let made = c .before .before .before .before .before .before .before .before .before .before in
+    let turn = made .before .before .before .before .before in
+    let loop = turn .before in
+    let start = loop .before .before .before .before .before .before in
+    going-stop _ _ _ _ _ _ _ _ _ _ _ _ _ _ (loop .loop .inv) (start .pre) _ _ (turn .loop-test .taken) (made .make .ensures) (c .if1 .taken)
 
 count-even-requires : tie.Need-count-even-requires Inv-loop μ-loop
 count-even-requires c κs = search needs
 
 add-even : tie.Need-add-even Inv-loop μ-loop
 add-even c =
-    let m = c .before .before .before .before .before .before .before .before .before .before .before in
-    let l = m .before .before .before .before .before in
-    let a = l .before in
-    let s = a .before .before .before .before .before .before in
-    record { fits = omega (arith, a .loop .inv .some-even, l .loop-test .taken, s .pre .2, c .count-even .ensures .1) }
+    let made = c .before .before .before .before .before .before .before .before .before .before .before in
+    let turn = made .before .before .before .before .before in
+    let loop = turn .before in
+    let start = loop .before .before .before .before .before .before in
+    let most = going-counts _ _ _ _ _ _ _ _ _ _ _ _ _ _ (loop .loop .inv) (start .pre) _ _ (turn .loop-test .taken) (made .make .ensures) (c .before .if1 .left) _ (c .count-even .ensures) in
+    record { fits = omega (arith, start .pre .few) }
 
 add-i : tie.Need-add-i Inv-loop μ-loop
 add-i c =
-    let m = c .before .before .before .before .before .before .before .before .before .before .before .before in
-    let l = m .before .before .before .before .before in
-    let a = l .before in
-    let s = a .before .before .before .before .before .before in
-    record { fits = omega (arith, l .loop-test .taken, s .pre .2) }
+    let made = c .before .before .before .before .before .before .before .before .before .before .before .before in
+    let turn = made .before .before .before .before .before in
+    let loop = turn .before in
+    let start = loop .before .before .before .before .before .before in
+    record { fits = omega (arith, turn .loop-test .taken, start .pre .few) }
 
 loop-less : tie.Need-loop-less Inv-loop μ-loop
 loop-less c = search needs
 
 loop-again : tie.Need-loop-again Inv-loop μ-loop
 loop-again c =
-    let e = c .before .before in
-    let f = e .before in
-    let m = e .before .before .before .before .before .before .before .before .before .before in
-    let l = m .before .before .before .before .before in
-    let a = l .before in
-    let s = a .before .before .before .before .before .before in
-    going-next _ _ _ _ _ _ _ _ _ _ _ _ _ _ (a .loop .inv) (s .pre .1) _ _ _ _ _ _ (l .loop-test .taken) (m .make .ensures .0) (m .make .ensures .1) (e .if1 .left) (c .before .count-even .ensures)
-    (f .before .before .before .before .before .before .keys .given) (f .before .before .before .before .spare .given) (f .before .before .lifted .given)
+    let counted = c .before in
+    let accepted = counted .before in
+    let after = accepted .before in
+    let made = accepted .before .before .before .before .before .before .before .before .before .before in
+    let turn = made .before .before .before .before .before in
+    let loop = turn .before in
+    let start = loop .before .before .before .before .before .before in
+    going-next _ _ _ _ _ _ _ _ _ _ _ _ _ _ (loop .loop .inv) (start .pre) _ _ (turn .loop-test .taken) (made .make .ensures) (accepted .if1 .left) _ (counted .count-even .ensures) _ _ _
+    (after .before .before .before .before .before .before .keys .given) (after .before .before .before .before .spare .given) (after .before .before .lifted .given)
 
 same-length-5 : tie.Need-same-length-5 Inv-loop μ-loop
 same-length-5 c = search needs
@@ -94,9 +96,9 @@ same-length-8 c = search needs
 
 returns-2 : tie.Need-returns-2 Inv-loop μ-loop
 returns-2 c =
-    let a = c .before in
-    let s = a .before .before .before .before .before .before in
-    going-end _ _ _ _ _ _ _ _ _ _ _ _ _ _ (a .loop .inv) (s .pre .1) (c .loop-test .left)
+    let loop = c .before in
+    let start = loop .before .before .before .before .before .before in
+    going-end _ _ _ _ _ _ _ _ _ _ _ _ _ _ (loop .loop .inv) (start .pre) (c .loop-test .left)
 
 pub make-all-spec : {M : Type 1} → statement M
 make-all-spec =

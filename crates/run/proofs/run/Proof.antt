@@ -1,7 +1,10 @@
--- `run::run` meets its contract: refused by its sheet, refused by 1, or all movements made in turn on a fresh book, with scratch memory of its own.
+-- `run` meets its contract: refused by its sheet, refused by 1, or all movements made in turn on a fresh book, with memory of its own to work in.
+-- Places: `read` follows the reading, `long` the test of the table's length, `opened` the opening, `made` the movements.
 -- Assumes nothing.
-use Prim.Native.Nat.{ℕ}
+use Prim.Native.Nat.{ℕ, _*_}
 use lib.ListN.{length-replicate}
+use Rattle.table.specs.Table.{mostPlaces}
+use Rattle.moving.specs.Applied.{liftedPlaces}
 use Rattle.run.proofs.RunLaws.{run-refused, run-short, run-ready, run-whole}
 use borrow.Author.Needs.{needs}
 use Rattle.run.proofs.run.Statement.{statement}
@@ -14,18 +17,13 @@ refused-requires : tie.Need-refused-requires
 refused-requires c κs = search needs
 
 returns : tie.Need-returns
-returns c =
-    let r = c .before .before .before in
-    run-refused _ _ _ (r .read .ensures) _ (c .before .if1 .taken) (c .refused .ensures)
+returns c = search (needs, run-refused)
 
 refused-requires-2 : tie.Need-refused-requires-2
 refused-requires-2 c κs = search needs
 
 returns-2 : tie.Need-returns-2
-returns-2 c =
-    let e = c .before .before in
-    let r = e .before .before in
-    run-short _ _ _ (r .read .ensures) (e .if1 .left) _ (c .before .if2 .taken) (c .refused2 .ensures)
+returns-2 c = search (needs, run-short)
 
 open-requires : tie.Need-open-requires
 open-requires c κs = search needs
@@ -41,21 +39,22 @@ slice-aggregate-make-all-3 c = search needs
 
 make-all-requires : tie.Need-make-all-requires
 make-all-requires c κs =
-    let o = c .before .before .before .before .before in
-    let e = o .before in
-    let r = e .before .before .before in
-    run-ready _ _ _ (r .read .ensures) (e .before .if1 .left) _ (o .open .ensures) (e .if2 .left) _ _ _ (length-replicate {A = ℕ} 4096 0) (length-replicate {A = ℕ} 4096 0) (length-replicate {A = ℕ} 16388 0)
+    let opened = c .before .before .before .before .before in
+    let long = opened .before in
+    let read = long .before .before .before in
+    run-ready _ _ _ (read .read .ensures) (long .before .if1 .left) (long .if2 .left) _ (opened .open .ensures) _ _ _
+    (length-replicate {A = ℕ} mostPlaces 0) (length-replicate {A = ℕ} mostPlaces 0) (length-replicate {A = ℕ} (4 * liftedPlaces) 0)
 
 same-length : tie.Need-same-length
 same-length c = search needs
 
 returns-3 : tie.Need-returns-3
 returns-3 c =
-    let m = c .before .before .before .before .before in
-    let o = m .before .before .before .before .before .before in
-    let e = o .before in
-    let r = e .before .before .before in
-    run-whole _ _ _ (r .read .ensures) (e .before .if1 .left) _ (o .open .ensures) (e .if2 .left) _ _ (m .make-all .ensures)
+    let made = c .before .before .before .before .before in
+    let opened = made .before .before .before .before .before .before in
+    let long = opened .before in
+    let read = long .before .before .before in
+    run-whole _ _ _ (read .read .ensures) (long .before .if1 .left) (long .if2 .left) _ (opened .open .ensures) _ _ (made .make-all .ensures)
 
 pub run-spec : {M : Type 1} → statement M
 run-spec =
