@@ -1,5 +1,5 @@
--- A head and a table that add up, as one record: the book that they hold is sound, and what the code reads off the head is what the
--- pieces say. It is made here, and nowhere else are the tests taken apart.
+-- A head and a table that add up, as one record, and what follows of those whose numbers are of 32 bits: the book that they hold is sound,
+-- and what the code reads off the head is what the pieces say. They are made here, and nowhere else are the tests taken apart.
 -- Assumes nothing.
 use mathlib.Core.Path.{_≡_, refl, sym, _∙_}
 use mathlib.Core.Bool.{true}
@@ -14,7 +14,7 @@ use Rattle.table.proofs.Table.{length-pieces, formed, places-fit}
 use Rattle.refusal.specs.Numbers.{first}
 use Rattle.book.specs.declared.Head.{Head}
 use Rattle.book.specs.declared.Transfer.{Transfer}
-use Rattle.book.specs.Head.{Sized, balanceAt, balancesOf, bookOf, bookTests, addsUp}
+use Rattle.book.specs.Head.{lastRule, mostVessels, Sized, balanceAt, balancesOf, bookOf, bookTests, addsUp}
 use Rattle.book.specs.Transfer.{ofBook, ofHead, transferChecks}
 use Rattle.book.specs.Memory.{bookChecks}
 use Rattle.book.proofs.BalanceLaws.{Matches, balances-match, balance-held}
@@ -22,8 +22,34 @@ use Rattle.book.proofs.Sound.{SoundPiece, SoundBook}
 use Rattle.book.proofs.HeadLaws.{Hold, hold, all-sound, same-eq}
 use Rattle.book.proofs.Memory.{On, book-passed}
 
+-- what each test of `addsUp` says
+pub record AddsUp (h : Head) (t : List ℕ) : Type 0 where
+  pub rule-known : h .rule ≤ lastRule
+  pub some-vessel : 1 ≤ h .vessels
+  pub vessels-fit : h .vessels ≤ mostVessels
+  pub few : h .pieces ≤ placesOf t
+  pub counted : h .pieces ≤ h .accepted
+  pub sound : All (SoundPiece (h .vessels) (h .last)) (piecesOf (h .pieces) t)
+  pub balances-are : h .balances ≡ balancesOf (h .vessels) (piecesOf (h .pieces) t)
+
+by-name : (h : Head) (t : List ℕ) → Hold (bookTests h t) → AddsUp h t
+by-name h t (rule, (some, (most, (few, (counted, (fit, (equal, end))))))) = record {
+  rule-known = leb-true _ _ rule;
+  some-vessel = leb-true 1 _ some;
+  vessels-fit = leb-true _ _ most;
+  few = leb-true _ _ few;
+  counted = leb-true _ _ counted;
+  sound = all-sound _ _ _ fit;
+  balances-are = same-eq (h .balances) _ equal;
+}
+
+pub adds-up : (h : Head) (t : List ℕ) → addsUp h t ≡ true → AddsUp h t
+unfolding addsUp
+adds-up h t a = by-name h t (hold (bookTests h t) a)
+
+-- A book in memory that adds up, with numbers of 32 bits.
 pub record Known (h : Head) (t : List ℕ) : Type 0 where
-  pub adds-up : addsUp h t ≡ true
+  pub adds : addsUp h t ≡ true
   pub sized : Sized h
   pub sound : SoundBook (placesOf t) (bookOf h t)
   pub on : On (placesOf t) h t (bookOf h t)
@@ -32,41 +58,34 @@ pub record Known (h : Head) (t : List ℕ) : Type 0 where
   pub matches : Matches (h .balances) (piecesOf (h .pieces) t)
   pub balance : (v : ℕ) → balanceAt h v ≡ held v (piecesOf (h .pieces) t)
 
-holders : {size last : ℕ} {ps : _} → All (SoundPiece size last) ps → All (λ p. p .holder < size) ps
-holders x = all-map (λ p f. f .holder-in) x
-
-by-name : (h : Head) (t : List ℕ) → Sized h → addsUp h t ≡ true → Hold (bookTests h t) → Known h t
-by-name h t z a (rule, (some, (most, (few, (counted, (fit, (equal, end))))))) =
+pub known-up : (h : Head) (t : List ℕ) → Sized h → addsUp h t ≡ true → Known h t
+known-up h t z a =
+    let u = adds-up h t a in
     let ps = piecesOf (h .pieces) t in
     let long = length-pieces (h .pieces) t in
-    let pieces = all-sound _ _ ps fit in
-    let e = same-eq (h .balances) (balancesOf (h .vessels) ps) equal in
-    let m = balances-match (h .vessels) (h .balances) ps (holders pieces) e in
-    let b = balance-held h (h .vessels) ps (leb-true _ _ most) (holders pieces) m in
-    let room = places-fit t (h .pieces) (placesOf t) refl (leb-true _ _ few) in
+    let holders = all-map (λ p f. f .holder-in) (u .sound) in
+    let m = balances-match (h .vessels) (h .balances) ps holders (u .balances-are) in
+    let b = balance-held h (h .vessels) ps (u .vessels-fit) holders m in
+    let room = places-fit t (h .pieces) (placesOf t) refl (u .few) in
     record {
-      adds-up = a;
+      adds = a;
       sized = z;
       sound = record {
-        known = leb-true _ _ rule;
-        some-vessel = leb-true 1 _ some;
-        vessels-fit = leb-true _ _ most;
-        fits = rw long (leb-true _ _ few);
-        counted = rw long (leb-true _ _ counted);
-        sound = pieces;
+        known = u .rule-known;
+        some-vessel = u .some-vessel;
+        vessels-fit = u .vessels-fit;
+        fits = rw long (u .few);
+        counted = rw long (u .counted);
+        sound = u .sound;
         light = λ v. rw (← (b v)) (z .light v);
         tally = z .tally;
       };
-      on = record { head-is = rw (long, ← e); lies = record { tail = drop (4 * h .pieces) t; table-is = formed (h .pieces) t room; places-is = refl } };
-      few = leb-true _ _ few;
+      on = record { head-is = rw (long, ← (u .balances-are)); lies = record { tail = drop (4 * h .pieces) t; table-is = formed (h .pieces) t room; places-is = refl } };
+      few = u .few;
       there = room;
       matches = m;
       balance = b;
     }
-
-pub known-up : (h : Head) (t : List ℕ) → Sized h → addsUp h t ≡ true → Known h t
-unfolding addsUp
-known-up h t z a = by-name h t z a (hold (bookTests h t) a)
 
 -- as checks 1 and 4 find it
 pub known : (h : Head) (t : List ℕ) (n : ℕ) → (n ≡ first (bookChecks h t)) × Sized h → n ≡ 0 → Known h t

@@ -12,9 +12,9 @@ use Rattle.table.specs.declared.Piece.{Piece}
 use Rattle.table.specs.Pieces.{noPiece}
 use Rattle.table.specs.Table.{piecesOf, pieceIn}
 use Rattle.table.proofs.Table.{length-pieces}
-use Rattle.sheet.proofs.PutLaws.{put-then}
+use Rattle.fields.proofs.PutLaws.{put-then}
 use Rattle.run.specs.declared.Ran.{Ran}
-use Rattle.sheet.proofs.CheckLaws.{not-zero}
+use Rattle.fields.proofs.CheckLaws.{not-zero}
 use Rattle.listing.specs.Listing.{Put, Listed, pieceLine, pieceLines, stoppedLine, lastLine, refusedLine, bookText, listingText, roomFor}
 
 module _ (t : List ℕ) (n i : ℕ) where

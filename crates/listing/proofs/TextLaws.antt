@@ -7,7 +7,7 @@ use mathlib.Core.Path.{_≡_, refl, sym, ap, _∙_}
 use mathlib.Core.List.{List, [], _∷_, _++_, append-assoc}
 use lib.ListN.{length, take, drop, set, length-append, length-drop, length-set, drop-of-length-le}
 use lib.Seq.{sets, take-all, drop-cons, drop-set-lt, getD-set-same}
-use Rattle.sheet.proofs.PutLaws.{put-then, copy-end}
+use Rattle.fields.proofs.PutLaws.{put-then}
 use Rattle.listing.specs.Digits.{lastDigit, digits, decimal}
 use Rattle.listing.specs.Listing.{Put}
 
@@ -77,10 +77,6 @@ few-digits (suc k) (suc n) = rw length-append (omega (arith, few-digits k (suc n
 pub ten-digits : (n : ℕ) → length (decimal n) ≤ 10
 unfolding decimal
 ten-digits n = rw length-append (omega (arith, few-digits 9 (n / 10)))
-
--- the loop that copies a text ends behind it
-pub text-put : (out out₀ text : List ℕ) (at i : ℕ) → i ≤ length text → length text ≤ i → sets out (at + i) (drop i text) ≡ sets out₀ at text → Put out₀ at text (at + i) out
-text-put out out₀ text at i h k e = record { next-is = omega arith; after-is = copy-end out (sets out₀ at text) text at i k e }
 
 -- a number's text, and a word's: no longer than it may be
 pub number-put : {l l′ : List ℕ} {at r : ℕ} (text : List ℕ) (n k : ℕ) → (k < 10) × (length text ≡ 10) × (drop k text ≡ decimal n)

@@ -112,7 +112,7 @@ module _ (s : List ℕ) (m : ℕ) (h₀ : Head) (t₀ k₀ p₀ l₀ : List ℕ)
             some-even = omega (arith, g .some-even, eo .1);
             work = record {
               long = rw (posts .table, v) (g .work .long);
-              adds-up = rw (posts .answer, posts .table) (u .adds-up);
+              adds-up = rw (posts .answer, posts .table) (u .adds);
               sized = rw (posts .answer) (u .sized);
               memory = lk ∙ g .work .memory;
               aside = rw lp (g .work .aside);
@@ -217,7 +217,7 @@ module _ (s t : List ℕ) (r : Reading) (er : r ≡ reading s) where
             reads = read-well;
             count = ap (λ (x : Reading). x .movements) header;
             few = rw header (good s 0 (sym read-well) refl .movements .1);
-            work = rw fresh (record { long = long; adds-up = k .adds-up; sized = k .sized; memory = a; aside = omega arith; above = omega arith });
+            work = rw fresh (record { long = long; adds-up = k .adds; sized = k .sized; memory = a; aside = omega arith; above = omega arith });
           }
 
       pub run-whole : (z : Ran) (t′ : List ℕ) → Gives (runFrom 0 0 (o .head) t (transfersOf s)) t′ z → Gives (running s t) t′ z
