@@ -9,7 +9,10 @@ run-requires : tie.Need-run-requires
 run-requires c κs = search needs
 
 put-listing-requires : tie.Need-put-listing-requires
-put-listing-requires c κs = list-ready _ _ _ _ (c .before .before .before .before .run .ensures) _ (c .before .before .before .before .before .before .before .before .before .pre)
+put-listing-requires c κs =
+    let ran = c .before .before .before .before in
+    let start = ran .before .before .before .before .before in
+    list-ready _ _ _ _ (ran .run .ensures) _ (start .pre)
 
 same-length : tie.Need-same-length
 same-length c = search needs
@@ -19,8 +22,8 @@ same-length-2 c = search needs
 
 returns : tie.Need-returns
 returns c =
-    let ran = c .before .before .before .before .before .before .before .run .ensures in
-    (list-done _ _ _ _ ran _ _ _ (c .before .before .put-listing .ensures), ran .1)
+    let ran = c .before .before .before .before .before .before .before in
+    (list-done _ _ _ _ (ran .run .ensures) _ _ _ (c .before .before .put-listing .ensures), ran .run .ensures .table-is)
 
 pub list-sheet-spec : {M : Type 1} → statement M
 list-sheet-spec =
