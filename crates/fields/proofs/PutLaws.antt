@@ -4,7 +4,7 @@ use native.Mathlib.Nat.{add-zero, add-suc, suc-add, add-assoc, mul-suc}
 use native.Mathlib.Numerals.{add-one}
 use native.Mathlib.Omega.{arith}
 use mathlib.Core.Path.{_≡_, refl, sym, ap, _∙_}
-use mathlib.Core.List.{List, [], _∷_, _++_, flatMap}
+use mathlib.Core.List.{List, [], _∷_, _++_, append-assoc, flatMap}
 use lib.ListN.{length, getD, drop, set, drop-of-length-le}
 use lib.Seq.{sets, drop-cons}
 use Rattle.fields.specs.Bytes.{bytesOf, groups}
@@ -25,6 +25,11 @@ put-then l l₁ l₂ a b i j ej e₁ e₂ = e₂ ∙ rw (e₁, ej) (sets-append 
 
 pub number-then : (l l₁ l₂ b : List ℕ) (i j w x : ℕ) → j ≡ i + w → l₁ ≡ sets l i (bytesOf w x) → l₂ ≡ sets l₁ j b → l₂ ≡ sets l i (bytesOf w x ++ b)
 number-then l l₁ l₂ b i j w x ej e₁ e₂ = put-then l l₁ l₂ (bytesOf w x) b i j (rw length-bytes ej) e₁ e₂
+
+pub three-numbers : (l l₁ l₂ l₃ : List ℕ) (i j k v w u a b c : ℕ) → l₁ ≡ sets l i (bytesOf v a) → l₂ ≡ sets l₁ j (bytesOf w b) → l₃ ≡ sets l₂ k (bytesOf u c)
+    → j ≡ i + v → k ≡ j + w → l₃ ≡ sets l i (bytesOf v a ++ bytesOf w b ++ bytesOf u c)
+three-numbers l l₁ l₂ l₃ i j k v w u a b c e₁ e₂ e₃ ej ek =
+    simp append-assoc (number-then l l₁ l₃ (bytesOf w b ++ bytesOf u c) i j v a ej e₁ (number-then l₁ l₂ l₃ (bytesOf u c) j k w b ek e₂ e₃))
 
 -- the loop that copies bytes
 module _ (out goal bytes : List ℕ) (at i : ℕ) where

@@ -29,7 +29,7 @@ pub const ENTRIES_AT: usize = 16;
 pub const LENGTH_AT: usize = 20;
 
 // The four letters that a sheet begins with.
-pub fn mark() -> [u8; 4]
+pub fn mark() -> [u8; MARK_SIZE]
     ensures { λ r. ⌜ r ≡ mark ⌝ }
 {
     *b"PROV"

@@ -31,48 +31,49 @@ memory = replicate (givenSize * mostMovements) 0
 abbrev pub Again : List ℕ → List ℕ → ℕ → List ℕ → Type 0
 Again s out n out′ = (n ≡ rewriteNumber s (length out)) × (out′ ≡ rewritten s out)
 
-module _ (s out : List ℕ) (r : Reading) (e : r ≡ reading s) where
-  pub again-refused : (r .number ≡ 0 → ⊥) → Again s out (r .number) out
-  again-refused h =
-      let n = asked-refused s r e (19 if ltb (length out) (length s)) h in
-      (n, rw (← n) (not-zero (r .number) (s ++ drop (length s) out) out h))
+pub again-refused : (s out : List ℕ) (r : Reading) → r ≡ reading s → (r .number ≡ 0 → ⊥) → Again s out (r .number) out
+again-refused s out r e h =
+    let n = asked-refused s r e (19 if ltb (length out) (length s)) h in
+    (n, rw (← n) (not-zero (r .number) (s ++ drop (length s) out) out h))
 
-  module _ (z : r .number ≡ 0) where
-    reads : readNumber s ≡ 0
-    reads = read-zero s r e z
+module _ (s : List ℕ) (r : Reading) (e : r ≡ reading s) (z : r .number ≡ 0) where
+  reads : readNumber s ≡ 0
+  reads = read-zero s r e z
 
-    laid : Laid s
-    laid = good s _ refl reads
+  laid : Laid s
+  laid = good s _ refl reads
 
-    pub take-fits : (readNumber s ≡ 0) × (r .movements ≡ movementsOf s) × (givenSize * r .movements ≤ length memory)
-    take-fits =
-        let m = read-movements s r e z in
-        (reads, m, rw (length-replicate {A = ℕ} (givenSize * mostMovements) 0) (omega (arith, laid .movements)))
+  pub take-fits : (readNumber s ≡ 0) × (r .movements ≡ movementsOf s) × (givenSize * r .movements ≤ length memory)
+  take-fits =
+      let m = read-movements s r e z in
+      (reads, m, rw (length-replicate {A = ℕ} (givenSize * mostMovements) 0) (omega (arith, laid .movements)))
 
-    pub names-fit : nameStart (r .vessels) ≤ length s
-    names-fit = let v = read-vessels s r e z in omega (arith, laid .size)
+  pub names-fit : nameStart (r .vessels) ≤ length s
+  names-fit = let v = read-vessels s r e z in omega (arith, laid .size)
 
-    names-part : take (nameStart (r .vessels) - headerSize) (drop headerSize s) ≡ namesOf s
-    names-part = rw (add-sub-cancel-left, read-vessels s r e z)
+  names-part : take (nameStart (r .vessels) - headerSize) (drop headerSize s) ≡ namesOf s
+  names-part = rw (add-sub-cancel-left, read-vessels s r e z)
 
-    module _ (taken : List ℕ) (et : taken ≡ sets memory 0 (numbersOf s)) where
-      pub numbers-fit : givenSize * r .movements ≤ length taken
-      numbers-fit = rw (et, length-sets) (take-fits .2)
+  module _ (taken : List ℕ) (et : taken ≡ sets memory 0 (numbersOf s)) where
+    pub numbers-fit : givenSize * r .movements ≤ length taken
+    numbers-fit = rw (et, length-sets) (take-fits .2)
 
-      module _ (bytes : Below 256 s) where
-        numbers-part : take (givenSize * r .movements - 0) (drop 0 taken) ≡ numbersOf s
-        numbers-part =
-            let size = again.numbers s reads bytes in
-            let m = read-movements s r e z in
-            let fits : 0 + length (numbersOf s) ≤ length memory = omega (arith, take-fits .2) in
-            rw (sub-zero, et, sets-eq (numbersOf s) memory 0 fits) (take-at (numbersOf s) (drop (0 + length (numbersOf s)) memory) (givenSize * r .movements) (omega arith))
+    module _ (bytes : Below 256 s) where
+      numbers-part : take (givenSize * r .movements - 0) (drop 0 taken) ≡ numbersOf s
+      numbers-part =
+          let size = again.numbers s reads bytes in
+          let m = read-movements s r e z in
+          let fits : 0 + length (numbersOf s) ≤ length memory = omega (arith, take-fits .2) in
+          rw (sub-zero, et, sets-eq (numbersOf s) memory 0 fits)
+          (take-at (numbersOf s) (drop (0 + length (numbersOf s)) memory) (givenSize * r .movements) (omega arith))
 
+      same-size : sheetSize (vesselsOf s) (countGiven (numbersOf s)) ≡ length s
+      same-size = rw (again.same-count s reads bytes) (sym (laid .size))
+
+      module _ (out : List ℕ) where
         -- where what was read is given, only the room is looked at
         number : writeNumber (ruleOf s) (vesselsOf s) (namesOf s) (numbersOf s) (length out) ≡ rewriteNumber s (length out)
         number = again.asks-room s reads bytes (length out) ∙ rw (asked-good s r e z, laid .size)
-
-        same-size : sheetSize (vesselsOf s) (countGiven (numbersOf s)) ≡ length s
-        same-size = rw (again.same-count s reads bytes) (sym (laid .size))
 
         pub again-good : (n : ℕ) (out′ : List ℕ)
             → let names = take (nameStart (r .vessels) - headerSize) (drop headerSize s) in
@@ -80,6 +81,7 @@ module _ (s out : List ℕ) (r : Reading) (e : r ≡ reading s) where
             (n ≡ writeNumber (r .rule) (r .vessels) names numbers (length out)) × (out′ ≡ written (r .rule) (r .vessels) names numbers out)
             → Again s out n out′
         again-good n out′ p =
-            let q : (n ≡ writeNumber (ruleOf s) (vesselsOf s) (namesOf s) (numbersOf s) (length out)) × (out′ ≡ written (ruleOf s) (vesselsOf s) (namesOf s) (numbersOf s) out) =
+            let q : (n ≡ writeNumber (ruleOf s) (vesselsOf s) (namesOf s) (numbersOf s) (length out))
+            × (out′ ≡ written (ruleOf s) (vesselsOf s) (namesOf s) (numbersOf s) out) =
             rw (names-part, numbers-part, header s r e z) at p in
             (q .0 ∙ number, q .1 ∙ rw (number, read-rewrites s reads bytes .bytes, same-size))

@@ -41,12 +41,15 @@ samples =
     -- the rule, in its low and in its high byte
     ∷ sample 2 (set bytes 4 4)
     ∷ sample 2 (set bytes 5 1)
-    -- no vessel, 65 vessels
+    ∷ sample 0 (set bytes 4 3)
+    -- no vessel, 65 vessels; 64 are not refused by 3
     ∷ sample 3 (set bytes 6 0)
     ∷ sample 3 (set bytes 6 65)
-    -- no movement, 4,098 movements
+    ∷ sample 16 (set bytes 6 64)
+    -- no movement, 4,097 movements; 4,096 are not refused by 15
     ∷ sample 15 (set bytes 8 0)
-    ∷ sample 15 (set bytes 9 16)
+    ∷ sample 15 (set (set bytes 8 1) 9 16)
+    ∷ sample 16 (set (set bytes 8 0) 9 16)
     -- each cause of 16 by itself: the offset of the names, that of the movements, the length, the real length
     ∷ sample 16 (set bytes 12 25)
     ∷ sample 16 (set bytes 16 49)

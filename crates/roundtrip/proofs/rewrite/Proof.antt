@@ -10,8 +10,7 @@ read-requires : tie.Need-read-requires
 read-requires c κs = search needs
 
 returns : tie.Need-returns
-returns c =
-    again-refused _ _ _ (c .before .before .read .ensures) (c .if1 .taken)
+returns c = again-refused _ _ _ (c .before .before .read .ensures) (c .if1 .taken)
 
 slice-aggregate-take-numbers : tie.Need-slice-aggregate-take-numbers
 slice-aggregate-take-numbers c = search needs
@@ -19,9 +18,7 @@ slice-aggregate-take-numbers c = search needs
 take-numbers-requires : tie.Need-take-numbers-requires
 take-numbers-requires c κs =
     let good = c .before in
-    let read = good .before .before in
-    let a = read .before .before .before .args in
-    take-fits (a .sheet .now) (a .out .now) _ (read .read .ensures) (good .if1 .left)
+    take-fits _ _ (good .before .before .read .ensures) (good .if1 .left)
 
 cast-names-end : tie.Need-cast-names-end
 cast-names-end c = search needs
@@ -45,10 +42,7 @@ part-write-start : tie.Need-part-write-start
 part-write-start c = search needs
 
 part-write-end : tie.Need-part-write-end
-part-write-end c =
-    let good = c .before .before .before .before .before in
-    let read = good .before .before in
-    names-fit _ (read .before .before .before .args .out .now) _ (read .read .ensures) (good .if1 .left)
+part-write-end c = search (needs, names-fit)
 
 sub-write-2 : tie.Need-sub-write-2
 sub-write-2 c = search needs
@@ -57,11 +51,7 @@ part-write-start-2 : tie.Need-part-write-start-2
 part-write-start-2 c = search needs
 
 part-write-end-2 : tie.Need-part-write-end-2
-part-write-end-2 c =
-    let taken = c .before .before .before .before .before in
-    let good = taken .before .before in
-    let read = good .before .before in
-    numbers-fit _ (read .before .before .before .args .out .now) _ (read .read .ensures) (good .if1 .left) _ (taken .take-numbers .ensures)
+part-write-end-2 c = search (needs, numbers-fit)
 
 write-requires : tie.Need-write-requires
 write-requires c κs = search needs
@@ -78,8 +68,8 @@ returns-2 c =
     let read = good .before .before in
     let bytes = read .before .before in
     let a = bytes .before .args in
-    again-good (a .sheet .now) (a .out .now) _ (read .read .ensures) (good .if1 .left) _ (taken .take-numbers .ensures)
-    (λ i. omega (arith, bytes .shared-slice-known .given i)) _ _ (written .write .ensures)
+    again-good (a .sheet .now) _ (read .read .ensures) (good .if1 .left) _ (taken .take-numbers .ensures)
+    (λ i. omega (arith, bytes .shared-slice-known .given i)) (a .out .now) _ _ (written .write .ensures)
 
 pub rewrite-spec : {M : Type 1} → statement M
 rewrite-spec =
