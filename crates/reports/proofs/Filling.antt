@@ -7,14 +7,15 @@ use Prim.Native.Nat.{ℕ, zero, suc, _+_, _-_, _*_, _≤_, _<_}
 use native.Mathlib.Nat.{zero-mul, suc-mul, mul-le-mul, mul-le-mul-right, add-zero}
 use native.Mathlib.Numerals.{add-one}
 use native.Mathlib.Omega.{arith}
-use mir.Syntax.{w32}
+use mir.Syntax.{w32, w64}
 use mir.Val.{Fits}
 use lib.Dec.{eqb}
-use lib.ListN.{length, getD, take, drop, set, replicate, length-append, length-drop, length-replicate, drop-of-length-le}
+use lib.ListN.{length, getD, take, drop, set, replicate, length-append, length-take, length-drop, length-replicate, drop-of-length-le}
 use lib.Seq.{drop-cons, getD-set-same, set-at, append-snoc, take-at, drop-at, take-all, drop-drop}
 use Rattle.table.specs.declared.Piece.{Piece}
 use Rattle.table.specs.Pieces.{only, total, weigh, inVessel}
 use Rattle.refusal.specs.Numbers.{TOP}
+use Rattle.book.specs.Head.{mostVessels}
 use Rattle.book.specs.Reports.{heldRow, rows, onto}
 use Rattle.book.proofs.BalanceLaws.{length-tab}
 use Rattle.reports.specs.declared.Row.{Row}
@@ -80,12 +81,29 @@ unfolding rows
 length-rows size v zero ps = sym (zero-mul size)
 length-rows size v (suc n) ps = length-append (heldRow size v ps) (rows size (suc v) n ps) ∙ omega (arith, length-row size v ps, length-rows size (suc v) n ps, suc-mul n size)
 
--- a row of a square of rows lies in it, and is not far
-pub square : (v m : ℕ) → v < m → v * m + m ≤ m * m
-square v m h = rw (← suc-mul) (mul-le-mul-right m h)
+-- where row v of m starts: its number is small, and the row lies in the room
+module _ (v m : ℕ) (h : v < m) where
+  square : v * m + m ≤ m * m
+  square = rw (← suc-mul) (mul-le-mul-right m h)
 
-pub square-small : (v m : ℕ) → v < m → m ≤ 64 → v * m < 4096
-square-small v m h b = omega (arith, square v m h, mul-le-mul b b, h)
+  pub row-in : (r r₀ : List ℕ) → m * m ≤ length r₀ → length r ≡ length r₀ → v * m ≤ length r
+  row-in r r₀ room same = omega (arith, square)
+
+  pub row-fits : (r r₀ : List ℕ) → m * m ≤ length r₀ → length r ≡ length r₀ → m ≤ length (take (length r - v * m) (drop (v * m) r))
+  row-fits r r₀ room same = let q = square in simp (length-take, length-drop) (omega arith)
+
+  module _ (few : m ≤ mostVessels) where
+    small : v * m < mostVessels * mostVessels
+    small = omega (arith, square, mul-le-mul few few)
+
+    pub row-start : Fits w32 (v * m)
+    row-start = record { fits = omega (arith, small) }
+
+    pub row-start-wide : Fits w64 (v * m)
+    row-start-wide = record { fits = omega (arith, small) }
+
+    pub row-start-scaled : Fits w64 (v * m * 4)
+    row-start-scaled = record { fits = omega (arith, small) }
 
 -- the loop over the rows: its start, a turn that lends the part behind the rows to the next row, and its end
 module _ (m : ℕ) (ps : List Piece) (r₀ : List ℕ) where
