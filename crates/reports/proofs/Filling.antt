@@ -1,4 +1,4 @@
--- The loops and parts of a report: clearing its numbers, entering a piece, a row, and rows one behind the other.
+-- The loops and parts of a report: clearing its numbers, entering a piece, what a row asks of a book's pieces, and rows one behind the other.
 -- Assumes nothing.
 use mathlib.Core.Path.{_≡_, refl, sym, ap, _∙_}
 use mathlib.Core.Bool.{Bool, true, false, _&&_, cond}

@@ -3,10 +3,9 @@
 -- Assumes nothing.
 use borrow.Author.Needs.{needs}
 use Prim.Native.Nat.{_+_, _*_, _-_, _≤_}
-use native.Mathlib.Omega.{arith}
 use mathlib.Core.Path.{_≡_, refl, _∙_}
 use mathlib.Core.List.{_++_}
-use lib.ListN.{length, drop, length-take, length-drop}
+use lib.ListN.{length, drop}
 use Rattle.table.specs.Table.{piecesOf}
 use Rattle.book.specs.Reports.{rows}
 use Rattle.reports.proofs.Filling.{rows-none, rows-next, rows-end, row-fits, row-start, row-start-wide, row-start-scaled, row-in}
