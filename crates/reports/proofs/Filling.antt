@@ -1,6 +1,6 @@
 -- The loops and parts of a report: clearing its numbers, entering a piece, what a row asks of a book's pieces, and rows one behind the other.
 -- Assumes nothing.
-use mathlib.Core.Path.{_≡_, refl, sym, ap, _∙_}
+use mathlib.Core.Path.{_≡_, sym, ap, _∙_}
 use mathlib.Core.Bool.{Bool, true, false, _&&_, cond}
 use mathlib.Core.List.{List, [], _∷_, _++_, append-assoc, append-nil}
 use Prim.Native.Nat.{ℕ, zero, suc, _+_, _-_, _*_, _≤_, _<_}
@@ -10,7 +10,7 @@ use native.Mathlib.Omega.{arith}
 use mir.Syntax.{w32, w64}
 use mir.Val.{Fits}
 use lib.Dec.{eqb}
-use lib.ListN.{length, getD, take, drop, set, replicate, length-append, length-take, length-drop, length-replicate, drop-of-length-le}
+use lib.ListN.{length, getD, take, drop, set, replicate, replicate-append-replicate, length-append, length-take, length-drop, length-replicate, drop-of-length-le}
 use lib.Seq.{drop-cons, getD-set-same, set-at, append-snoc, take-at, drop-at, take-all, drop-drop}
 use Rattle.table.specs.declared.Piece.{Piece}
 use Rattle.table.specs.Pieces.{only, total, weigh, inVessel}
@@ -22,14 +22,11 @@ use Rattle.reports.specs.declared.Row.{Row}
 use Rattle.reports.specs.declared.Row.the-variants.{ByOrigin, ByHolder}
 use Rattle.reports.specs.Scatter.{addAt, born, counted, indexOf, Tallied, Reportable}
 
-replicate-snoc : (n a : ℕ) → replicate (suc n) a ≡ replicate n a ++ a ∷ []
-replicate-snoc zero a = refl
-replicate-snoc (suc n) a = ap (λ (l : List ℕ). a ∷ l) (replicate-snoc n a)
-
 -- clearing: a turn and the end
 pub clear-next : (i n : ℕ) (r₀ r : List ℕ) → i < n → n ≤ length r₀ → r ≡ replicate i 0 ++ drop i r₀ → set r i 0 ≡ replicate (i + 1) 0 ++ drop (i + 1) r₀
 clear-next i n r₀ r h l e =
-    rw (e, add-one, drop-cons r₀ i 0 (omega arith)) (set-at (replicate i 0) (getD r₀ i 0) (drop (suc i) r₀) 0 i (length-replicate i 0) ∙ sym (append-snoc (replicate i 0) 0 (drop (suc i) r₀)) ∙ ap (λ (l : List ℕ). l ++ drop (suc i) r₀) (sym (replicate-snoc i 0)))
+    let behind = drop (suc i) r₀ in
+    rw (e, ← (replicate-append-replicate {A = ℕ} i 1 0), add-one, drop-cons r₀ i 0 (omega arith)) (set-at (replicate i 0) (getD r₀ i 0) behind 0 i (length-replicate i 0) ∙ sym (append-snoc (replicate i 0) 0 behind))
 
 pub clear-end : (i n : ℕ) (r₀ r : List ℕ) → i ≤ n → n ≤ i → r ≡ replicate i 0 ++ drop i r₀ → r ≡ replicate n 0 ++ drop n r₀
 clear-end i n r₀ r a b e = let q : n ≡ i = omega arith in rw q e
