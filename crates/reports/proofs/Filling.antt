@@ -1,34 +1,32 @@
--- The loops and parts of a report: clearing its numbers, entering a piece, a row, and rows one behind the other.
+-- The loops and parts of a report: clearing its numbers, entering a piece, what a row asks of a book's pieces, and rows one behind the other.
 -- Assumes nothing.
-use mathlib.Core.Path.{_≡_, refl, sym, ap, _∙_}
+use mathlib.Core.Path.{_≡_, sym, ap, _∙_}
 use mathlib.Core.Bool.{Bool, true, false, _&&_, cond}
 use mathlib.Core.List.{List, [], _∷_, _++_, append-assoc, append-nil}
 use Prim.Native.Nat.{ℕ, zero, suc, _+_, _-_, _*_, _≤_, _<_}
 use native.Mathlib.Nat.{zero-mul, suc-mul, mul-le-mul, mul-le-mul-right, add-zero}
 use native.Mathlib.Numerals.{add-one}
 use native.Mathlib.Omega.{arith}
-use mir.Syntax.{w32}
+use mir.Syntax.{w32, w64}
 use mir.Val.{Fits}
 use lib.Dec.{eqb}
-use lib.ListN.{length, getD, take, drop, set, replicate, length-append, length-drop, length-replicate, drop-of-length-le}
+use lib.ListN.{length, getD, take, drop, set, replicate, replicate-append-replicate, length-append, length-take, length-drop, length-replicate, drop-of-length-le}
 use lib.Seq.{drop-cons, getD-set-same, set-at, append-snoc, take-at, drop-at, take-all, drop-drop}
 use Rattle.table.specs.declared.Piece.{Piece}
 use Rattle.table.specs.Pieces.{only, total, weigh, inVessel}
 use Rattle.refusal.specs.Numbers.{TOP}
+use Rattle.book.specs.Head.{mostVessels}
 use Rattle.book.specs.Reports.{heldRow, rows, onto}
 use Rattle.book.proofs.BalanceLaws.{length-tab}
 use Rattle.reports.specs.declared.Row.{Row}
 use Rattle.reports.specs.declared.Row.the-variants.{ByOrigin, ByHolder}
 use Rattle.reports.specs.Scatter.{addAt, born, counted, indexOf, Tallied, Reportable}
 
-replicate-snoc : (n a : ℕ) → replicate (suc n) a ≡ replicate n a ++ a ∷ []
-replicate-snoc zero a = refl
-replicate-snoc (suc n) a = ap (λ (l : List ℕ). a ∷ l) (replicate-snoc n a)
-
 -- clearing: a turn and the end
 pub clear-next : (i n : ℕ) (r₀ r : List ℕ) → i < n → n ≤ length r₀ → r ≡ replicate i 0 ++ drop i r₀ → set r i 0 ≡ replicate (i + 1) 0 ++ drop (i + 1) r₀
 clear-next i n r₀ r h l e =
-    rw (e, add-one, drop-cons r₀ i 0 (omega arith)) (set-at (replicate i 0) (getD r₀ i 0) (drop (suc i) r₀) 0 i (length-replicate i 0) ∙ sym (append-snoc (replicate i 0) 0 (drop (suc i) r₀)) ∙ ap (λ (l : List ℕ). l ++ drop (suc i) r₀) (sym (replicate-snoc i 0)))
+    let behind = drop (suc i) r₀ in
+    rw (e, ← (replicate-append-replicate {A = ℕ} i 1 0), add-one, drop-cons r₀ i 0 (omega arith)) (set-at (replicate i 0) (getD r₀ i 0) behind 0 i (length-replicate i 0) ∙ sym (append-snoc (replicate i 0) 0 behind))
 
 pub clear-end : (i n : ℕ) (r₀ r : List ℕ) → i ≤ n → n ≤ i → r ≡ replicate i 0 ++ drop i r₀ → r ≡ replicate n 0 ++ drop n r₀
 clear-end i n r₀ r a b e = let q : n ≡ i = omega arith in rw q e
@@ -80,12 +78,29 @@ unfolding rows
 length-rows size v zero ps = sym (zero-mul size)
 length-rows size v (suc n) ps = length-append (heldRow size v ps) (rows size (suc v) n ps) ∙ omega (arith, length-row size v ps, length-rows size (suc v) n ps, suc-mul n size)
 
--- a row of a square of rows lies in it, and is not far
-pub square : (v m : ℕ) → v < m → v * m + m ≤ m * m
-square v m h = rw (← suc-mul) (mul-le-mul-right m h)
+-- where row v of m starts: its number is small, and the row lies in the room
+module _ (v m : ℕ) (h : v < m) where
+  square : v * m + m ≤ m * m
+  square = rw (← suc-mul) (mul-le-mul-right m h)
 
-pub square-small : (v m : ℕ) → v < m → m ≤ 64 → v * m < 4096
-square-small v m h b = omega (arith, square v m h, mul-le-mul b b, h)
+  pub row-in : (r r₀ : List ℕ) → m * m ≤ length r₀ → length r ≡ length r₀ → v * m ≤ length r
+  row-in r r₀ room same = omega (arith, square)
+
+  pub row-fits : (r r₀ : List ℕ) → m * m ≤ length r₀ → length r ≡ length r₀ → m ≤ length (take (length r - v * m) (drop (v * m) r))
+  row-fits r r₀ room same = let q = square in simp (length-take, length-drop) (omega arith)
+
+  module _ (few : m ≤ mostVessels) where
+    small : v * m < mostVessels * mostVessels
+    small = omega (arith, square, mul-le-mul few few)
+
+    pub row-start : Fits w32 (v * m)
+    row-start = record { fits = omega (arith, small) }
+
+    pub row-start-wide : Fits w64 (v * m)
+    row-start-wide = record { fits = omega (arith, small) }
+
+    pub row-start-scaled : Fits w64 (v * m * 4)
+    row-start-scaled = record { fits = omega (arith, small) }
 
 -- the loop over the rows: its start, a turn that lends the part behind the rows to the next row, and its end
 module _ (m : ℕ) (ps : List Piece) (r₀ : List ℕ) where

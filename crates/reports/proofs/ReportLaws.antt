@@ -27,6 +27,7 @@ use Rattle.book.proofs.Known.{Known}
 use Rattle.reports.proofs.Scattered.{row-at}
 use Rattle.reports.proofs.Filling.{length-row}
 
+-- the sum of a row's numbers
 abbrev pub added : List ℕ → ℕ
 added = foldr _+_ 0
 

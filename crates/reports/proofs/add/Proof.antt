@@ -23,10 +23,7 @@ piece-at-requires : tie.Need-piece-at-requires Inv-loop μ-loop
 piece-at-requires c κs = search needs
 
 enter-requires : tie.Need-enter-requires Inv-loop μ-loop
-enter-requires c κs =
-    let l = c .before .before .before in
-    let s = l .before .before .before in
-    fill-requires (counted (s .args .row)) (indexOf (s .args .row)) _ _ _ _ _ _ (search needs) (c .before .piece-at .ensures) (l .loop .inv .1) (s .pre .1) (l .loop .inv .2)
+enter-requires c κs = search (needs, fill-requires)
 
 add-i : tie.Need-add-i Inv-loop μ-loop
 add-i c = search needs

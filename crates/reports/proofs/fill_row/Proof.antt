@@ -1,6 +1,5 @@
 -- `reports::fill_row` meets its contract: the numbers are cleared, and then each becomes the sum of its kind.
 -- Assumes nothing.
-use Rattle.reports.specs.Scatter.{counted, indexOf}
 use Rattle.reports.proofs.Scattered.{fillable, filled}
 use borrow.Author.Needs.{needs}
 use Rattle.reports.proofs.fill_row.Statement.{statement}
@@ -10,20 +9,13 @@ clear-requires : tie.Need-clear-requires
 clear-requires c κs = search needs
 
 add-requires : tie.Need-add-requires
-add-requires c κs =
-    let a = c .before .before .before in
-    let s = a .before .before .before .before in
-    (search needs, fillable (counted (s .args .row)) (indexOf (s .args .row)) (s .args .size) _ _ (s .pre .1) (s .pre .2) _ (a .clear .ensures))
+add-requires c κs = search (needs, fillable)
 
 same-length : tie.Need-same-length
 same-length c = search needs
 
 returns : tie.Need-returns
-returns c =
-    let b = c .before .before in
-    let a = b .before .before .before .before in
-    let s = a .before .before .before .before in
-    filled (counted (s .args .row)) (indexOf (s .args .row)) (s .args .size) _ _ (s .pre .1) (s .pre .2) _ (a .clear .ensures) _ (b .add .ensures)
+returns c = search (needs, filled)
 
 pub fill-row-spec : {M : Type 1} → statement M
 fill-row-spec = tie.close (tie.spec clear-requires add-requires same-length returns)

@@ -3,13 +3,12 @@
 -- Assumes nothing.
 use borrow.Author.Needs.{needs}
 use Prim.Native.Nat.{_+_, _*_, _-_, _≤_}
-use native.Mathlib.Omega.{arith}
 use mathlib.Core.Path.{_≡_, refl, _∙_}
 use mathlib.Core.List.{_++_}
-use lib.ListN.{length, drop, length-take, length-drop}
+use lib.ListN.{length, drop}
 use Rattle.table.specs.Table.{piecesOf}
 use Rattle.book.specs.Reports.{rows}
-use Rattle.reports.proofs.Filling.{rows-none, rows-next, rows-end, square, square-small}
+use Rattle.reports.proofs.Filling.{rows-none, rows-next, rows-end, row-fits, row-start, row-start-wide, row-start-scaled, row-in}
 use Rattle.reports.proofs.fill_whole.Statement.{statement}
 use Rattle.reports.proofs.fill_whole.Tie as tie
 
@@ -23,29 +22,25 @@ loop-holds : tie.Need-loop-holds Inv-loop μ-loop
 loop-holds c = (search needs, refl, rows-none (c .before .before .args .vessels) _ _)
 
 mul-at : tie.Need-mul-at Inv-loop μ-loop
-mul-at c = omega (arith, square-small (c .before .loop .v) (c .before .before .before .before .args .vessels) (search needs) (search needs))
+mul-at c = search (needs, row-start)
 
 cast-at : tie.Need-cast-at Inv-loop μ-loop
-cast-at c = omega (arith, square-small (c .before .loop .v) (c .before .before .before .before .args .vessels) (search needs) (search needs))
+cast-at c = search (needs, row-start-wide)
 
 mul-fill-held : tie.Need-mul-fill-held Inv-loop μ-loop
-mul-fill-held c = omega (arith, square-small (c .before .loop .v) (c .before .before .before .before .args .vessels) (search needs) (search needs))
+mul-fill-held c = search (needs, row-start-scaled)
 
 sub-fill-held : tie.Need-sub-fill-held Inv-loop μ-loop
-sub-fill-held c = omega (arith, square (c .before .loop .v) (c .before .before .before .before .args .vessels) (search needs))
+sub-fill-held c = search (needs, row-in)
 
 part-fill-held-start : tie.Need-part-fill-held-start Inv-loop μ-loop
-part-fill-held-start c = omega (arith, square (c .before .loop .v) (c .before .before .before .before .args .vessels) (search needs))
+part-fill-held-start c = search (needs, row-in)
 
 part-fill-held-end : tie.Need-part-fill-held-end Inv-loop μ-loop
 part-fill-held-end c = search needs
 
 fill-held-requires : tie.Need-fill-held-requires Inv-loop μ-loop
-fill-held-requires c κs =
-    let l = c .before .before in
-    let s = l .before .before .before in
-    let q = square (l .loop .v) (s .args .vessels) (search needs) in
-    (search needs, simp (length-take, length-drop) (omega arith), search needs)
+fill-held-requires c κs = (search needs, search (needs, row-fits), search needs)
 
 add-v : tie.Need-add-v Inv-loop μ-loop
 add-v c = search needs
@@ -54,7 +49,7 @@ loop-less : tie.Need-loop-less Inv-loop μ-loop
 loop-less c = search needs
 
 loop-again : tie.Need-loop-again Inv-loop μ-loop
-loop-again c = (search needs, c .before .report .given .1 ∙ c .before .before .before .before .before .loop .inv .1, search (needs, rows-next))
+loop-again c = (search needs, search (needs, _∙_), search (needs, rows-next))
 
 same-length : tie.Need-same-length Inv-loop μ-loop
 same-length c = search needs
