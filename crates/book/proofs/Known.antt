@@ -14,7 +14,7 @@ use Rattle.table.proofs.Table.{length-pieces, formed, places-fit}
 use Rattle.refusal.specs.Numbers.{first}
 use Rattle.book.specs.declared.Head.{Head}
 use Rattle.book.specs.declared.Transfer.{Transfer}
-use Rattle.book.specs.Head.{lastRule, mostVessels, Sized, balanceAt, balancesOf, bookOf, bookTests, addsUp}
+use Rattle.book.specs.Head.{lastRule, mostVessels, Sized, balanceAt, balancesOf, headOf, bookOf, bookTests, addsUp}
 use Rattle.book.specs.Transfer.{ofBook, ofHead, transferChecks}
 use Rattle.book.specs.Memory.{bookChecks}
 use Rattle.book.proofs.BalanceLaws.{Matches, balances-match, balance-held}
@@ -46,6 +46,10 @@ by-name h t (rule, (some, (most, (few, (counted, (fit, (equal, end))))))) = reco
 pub adds-up : (h : Head) (t : List ℕ) → addsUp h t ≡ true → AddsUp h t
 unfolding addsUp
 adds-up h t a = by-name h t (hold (bookTests h t) a)
+
+-- a head that adds up is the head of its book
+pub adds-head : (h : Head) (t : List ℕ) → AddsUp h t → h ≡ headOf (bookOf h t)
+adds-head h t u = rw (length-pieces (h .pieces) t, ← (u .balances-are))
 
 -- A book in memory that adds up, with numbers of 32 bits.
 pub record Known (h : Head) (t : List ℕ) : Type 0 where
@@ -80,7 +84,7 @@ known-up h t z a =
         light = λ v. rw (← (b v)) (z .light v);
         tally = z .tally;
       };
-      on = record { head-is = rw (long, ← (u .balances-are)); lies = record { tail = drop (4 * h .pieces) t; table-is = formed (h .pieces) t room; places-is = refl } };
+      on = record { head-is = adds-head h t u; lies = record { tail = drop (4 * h .pieces) t; table-is = formed (h .pieces) t room; places-is = refl } };
       few = u .few;
       there = room;
       matches = m;

@@ -17,10 +17,10 @@ use Rattle.book.specs.declared.Reported.{Reported}
 use Rattle.book.specs.Head.{opening}
 use Rattle.book.specs.declared.Report.{Report}
 use Rattle.book.specs.Transfer.{transferOf}
-use Rattle.book.specs.Calls.{ask}
-use Rattle.book.specs.Memory.{callOn, reported}
+use Rattle.book.specs.Memory.{callOn}
 use Rattle.book.specs.Lists.{callsOn}
 use Rattle.posting.specs.Posting.{Posts}
+use Rattle.reports.specs.Asking.{Asks}
 use Rattle.journal.specs.Carried.{callSize, reportOf, callOf, callIn, roomLeft, Makes, Carried, carried, MakesAll, callsIn, countCalls, CarriesOut}
 use Rattle.reports.proofs.Asked.{asked-nothing}
 use Rattle.book.proofs.Lists.{demand-3}
@@ -37,8 +37,8 @@ module _ (h : Head) (t l : List ℕ) (at : ℕ) (room : List ℕ) where
       rw (is-call, eq-eqb _ _ e) (record { answer = ap (λ (z : Transferred). record { number = z .number; head = z .head }) (p .answer); table = p .table; room = refl })
 
   pub made-report : (getD l at 0 ≡ 0 → ⊥) → (q : Report) → q ≡ reportOf (getD l at 0) (getD l (at + 1) 0) (getD l (at + 2) 0) (getD l (at + 3) 0) → (z : Reported) (r′ : List ℕ)
-      → (z ≡ reported (callOn h t (ask q room))) × (r′ ≡ (callOn h t (ask q room)) .room) → Makes h (callIn (drop at l) room) t room t r′ z
-  made-report ne q e z r′ p = rw (is-call, ne-eqb _ _ ne, ← e) (record { answer = p .0; table = sym (asked-nothing h t q room .1); room = p .1 })
+      → Asks h q t room r′ z → Makes h (callIn (drop at l) room) t room t r′ z
+  made-report ne q e z r′ p = rw (is-call, ne-eqb _ _ ne, ← e) (record { answer = p .answer; table = sym (asked-nothing h t q room .1); room = p .room })
 
 -- Where carrying out stands before call i of n: the numbers so far and those that are left make the whole, and so do head, table and room.
 pub record Going (n : ℕ) (l : List ℕ) (h₀ : Head) (t₀ a₀ r₀ : List ℕ) (h : Head) (t a r : List ℕ) (i : ℕ) : Type 0 where

@@ -3,15 +3,17 @@
 ghost use mathlib.Core.Path.{_≡_};
 ghost use lib.ListN.{length};
 ghost use Rattle.book.specs.Head.{opening};
-ghost use Rattle.book.specs.Reports.{heldBy, spread, whole};
-ghost use Rattle.book.specs.Calls.{move, ask};
-ghost use Rattle.book.specs.Memory.{transferOf, transferred, reported, callOn};
+ghost use Rattle.book.specs.declared.Report.the-variants.{Held, Spread, Whole};
+ghost use Rattle.book.specs.Transfer.{transferOf};
+ghost use Rattle.posting.specs.Posting.{Posts};
+ghost use Rattle.reports.specs.Asking.{Asks};
 ghost use Rattle.sheet.specs.Answers.{reading, movementAsked, nameNumber, nameAsked};
-ghost use Rattle.sheet.specs.Writing.{writeNumber, written};
-ghost use Rattle.run.specs.Run.{running};
+ghost use Rattle.writing.specs.Writing.{writeNumber, written};
+ghost use Rattle.run.specs.Run.{Gives, running};
 use book::Head;
 use book::Opened;
 use book::Reported;
+use book::Transfer;
 use book::Transferred;
 use run::Ran;
 use sheet::answer::Movement;
@@ -33,10 +35,18 @@ pub extern "C" fn lumchaki_transfer(
     minute: u32,
     weight: u32,
 ) -> Transferred
-    ensures { λ r. ⌜ (r ≡ transferred (callOn head (now (table .entry)) (move (transferOf source destination minute weight))))
-        × (now (table .exit) ≡ (callOn head (now (table .entry)) (move (transferOf source destination minute weight))) .table) ⌝ }
+    ensures { λ r. ⌜ Posts head (transferOf source destination minute weight) (now (table .entry)) (now (table .exit)) r ⌝ }
 {
-    posting::transfer(head, table, source, destination, minute, weight)
+    posting::transfer(
+        head,
+        table,
+        Transfer {
+            source: source,
+            destination: destination,
+            minute: minute,
+            weight: weight,
+        },
+    )
 }
 
 #[no_mangle]
@@ -46,8 +56,7 @@ pub extern "C" fn lumchaki_held(
     vessel: u32,
     report: &mut [u32],
 ) -> Reported
-    ensures { λ r. ⌜ (r ≡ reported (callOn head (now (table .entry)) (ask (heldBy vessel) (now (report .entry)))))
-        × (now (report .exit) ≡ (callOn head (now (table .entry)) (ask (heldBy vessel) (now (report .entry)))) .room) ⌝ }
+    ensures { λ r. ⌜ Asks head (Held vessel) (now (table .entry)) (now (report .entry)) (now (report .exit)) r ⌝ }
 {
     reports::held(head, table, vessel, report)
 }
@@ -61,16 +70,14 @@ pub extern "C" fn lumchaki_spread(
     to: u32,
     report: &mut [u32],
 ) -> Reported
-    ensures { λ r. ⌜ (r ≡ reported (callOn head (now (table .entry)) (ask (spread origin from to) (now (report .entry)))))
-        × (now (report .exit) ≡ (callOn head (now (table .entry)) (ask (spread origin from to) (now (report .entry)))) .room) ⌝ }
+    ensures { λ r. ⌜ Asks head (Spread origin from to) (now (table .entry)) (now (report .entry)) (now (report .exit)) r ⌝ }
 {
     reports::spread(head, table, origin, from, to, report)
 }
 
 #[no_mangle]
 pub extern "C" fn lumchaki_whole(head: Head, table: &[u32], report: &mut [u32]) -> Reported
-    ensures { λ r. ⌜ (r ≡ reported (callOn head (now (table .entry)) (ask whole (now (report .entry)))))
-        × (now (report .exit) ≡ (callOn head (now (table .entry)) (ask whole (now (report .entry)))) .room) ⌝ }
+    ensures { λ r. ⌜ Asks head Whole (now (table .entry)) (now (report .entry)) (now (report .exit)) r ⌝ }
 {
     reports::whole(head, table, report)
 }
@@ -116,12 +123,12 @@ pub extern "C" fn lumchaki_write(
     ensures number { λ r. ⌜ r ≡ writeNumber rule vessels (now (names .entry)) (now (numbers .entry)) (length (now (out .entry))) ⌝ }
     ensures bytes { λ _. ⌜ now (out .exit) ≡ written rule vessels (now (names .entry)) (now (numbers .entry)) (now (out .entry)) ⌝ }
 {
-    sheet::write(rule, vessels, names, numbers, out)
+    writing::write(rule, vessels, names, numbers, out)
 }
 
 #[no_mangle]
 pub extern "C" fn lumchaki_run(sheet: &[u8], table: &mut [u32]) -> Ran
-    ensures { λ r. ⌜ (r ≡ (running (now (sheet .entry)) (now (table .entry))) .answer) × (now (table .exit) ≡ (running (now (sheet .entry)) (now (table .entry))) .table) ⌝ }
+    ensures { λ r. ⌜ Gives (running (now (sheet .entry)) (now (table .entry))) (now (table .exit)) r ⌝ }
 {
     run::run(sheet, table)
 }

@@ -6,30 +6,25 @@ use Prim.Native.Nat.{ℕ, _*_, _≤_, zero, suc}
 use lib.ListN.{length}
 use Rattle.table.specs.Table.{piecesOf}
 use Rattle.table.proofs.Pieces.{all-map}
-use Rattle.table.proofs.Table.{length-pieces}
 use Rattle.refusal.specs.Numbers.{first}
 use Rattle.book.specs.declared.Head.{Head}
 use Rattle.book.specs.declared.Reported.{Reported}
-use Rattle.book.specs.Head.{Sized, headOf, bookOf, bookTests, addsUp}
+use Rattle.book.specs.Head.{Sized}
 use Rattle.book.specs.Calls.{ask}
-use Rattle.book.specs.Memory.{outcome, bookChecks, numberOf, callOn, reported}
+use Rattle.book.specs.Memory.{outcome, bookChecks, numberOf, callOn}
 use Rattle.book.specs.Reports.{reportRow, reportChecks, onto}
 use Rattle.book.specs.declared.Report.{Report}
 use Rattle.book.proofs.Memory.{refused-on, off-number, on-number, passed-book, book-passed}
-use Rattle.book.proofs.Known.{known}
-use Rattle.book.proofs.HeadLaws.{Hold, hold, same-eq}
+use Rattle.book.proofs.Known.{adds-up, adds-head, known}
+use Rattle.reports.specs.Asking.{Asks}
 use Rattle.reports.specs.Scatter.{Reportable}
 
 module _ (h : Head) (t : List ℕ) (q : Report) (room : List ℕ) where
-  -- what the code promises of a report, with answer z and room r
-  abbrev Promised : Reported → List ℕ → Type 0
-  Promised z r = (z ≡ reported (callOn h t (ask q room))) × (r ≡ (callOn h t (ask q room)) .room)
-
-  refused : (n : ℕ) (z : Reported) → numberOf h t (ask q room) ≡ n → (n ≡ 0 → ⊥) → z ≡ record { number = n; head = h } → Promised z room
-  refused n z e nz ez = rw (refused-on h t (ask q room) n e nz) (ez, refl)
+  refused : (n : ℕ) (z : Reported) → numberOf h t (ask q room) ≡ n → (n ≡ 0 → ⊥) → z ≡ record { number = n; head = h } → Asks h q t room room z
+  refused n z e nz ez = let r = refused-on h t (ask q room) n e nz in record { answer = rw r ez; room = rw r }
 
   -- refused by 1 or 4
-  pub asked-off : (n : ℕ) → (n ≡ first (bookChecks h t)) × Sized h → (n ≡ 0 → ⊥) → (z : Reported) → z ≡ record { number = n; head = h } → Promised z room
+  pub asked-off : (n : ℕ) → (n ≡ first (bookChecks h t)) × Sized h → (n ≡ 0 → ⊥) → (z : Reported) → z ≡ record { number = n; head = h } → Asks h q t room room z
   asked-off n (e, sized) nz z = refused n z (off-number h t (ask q room) n e nz) nz
 
   -- past checks 1 and 4, which gave m, its own gave n
@@ -38,13 +33,13 @@ module _ (h : Head) (t : List ℕ) (q : Report) (room : List ℕ) where
     own-number = on-number h t (ask q room) m (em .0) zm ∙ sym en
 
     -- refused by a check of its own
-    pub asked-refused : (n ≡ 0 → ⊥) → (z : Reported) → z ≡ record { number = n; head = h } → Promised z room
+    pub asked-refused : (n ≡ 0 → ⊥) → (z : Reported) → z ≡ record { number = n; head = h } → Asks h q t room room z
     asked-refused nz z ez = refused n z own-number nz ez
 
     -- accepted, on a book that adds up
-    pub asked-accepted : n ≡ 0 → (z : Reported) → z ≡ record { number = 0; head = h } → (r : List ℕ) → r ≡ onto (reportRow (h .vessels) (piecesOf (h .pieces) t) q) room → Promised z r
+    pub asked-accepted : n ≡ 0 → (z : Reported) → z ≡ record { number = 0; head = h } → (r : List ℕ) → r ≡ onto (reportRow (h .vessels) (piecesOf (h .pieces) t) q) room → Asks h q t room r z
     unfolding callOn
-    asked-accepted zn z ez r er = let k = known h t m em zm in rw (own-number ∙ zn) (ez ∙ rw (← (k .on .head-is)) refl, er)
+    asked-accepted zn z ez r er = let k = known h t m em zm in let e = own-number ∙ zn in record { answer = rw e (ez ∙ rw (← (k .on .head-is)) refl); room = rw e er }
 
 -- What writing a report asks: checks 1 and 4 gave m, its own gave n, both 0.
 pub asked-ready : (h : Head) (t : List ℕ) (q : Report) (long m n : ℕ) → (m ≡ first (bookChecks h t)) × Sized h → m ≡ 0 → n ≡ first (reportChecks (h .vessels) long q) → n ≡ 0
@@ -54,15 +49,11 @@ asked-ready h t q long m n em zm en zn =
     let sound = k .sound .sound in
     (k .there, sym en ∙ zn, record { few = k .sound .vessels-fit; holders = all-map (λ p f. f .holder-in) sound; origins = all-map (λ p f. f .origin-in) sound; light = k .sound .light })
 
--- a head that adds up is the head of its book
-head-kept : (h : Head) (t : List ℕ) → Hold (bookTests h t) → headOf (bookOf h t) ≡ h
-head-kept h t (rule, (some, (most, (few, (counted, (fit, (equal, end))))))) = rw (length-pieces, ← (same-eq _ _ equal))
-
 -- REPORTS CHANGE NOTHING: refused or accepted, the head and the table are as they were.
 pub asked-nothing : (h : Head) (t : List ℕ) (q : Report) (room : List ℕ) → ((callOn h t (ask q room)) .head ≡ h) × ((callOn h t (ask q room)) .table ≡ t)
-unfolding callOn addsUp
+unfolding callOn
 asked-nothing h t q room = go (numberOf h t (ask q room)) refl
   where
     go : (n : ℕ) → numberOf h t (ask q room) ≡ n → ((outcome h t (ask q room) n) .head ≡ h) × ((outcome h t (ask q room) n) .table ≡ t)
-    go zero e = (head-kept h t (hold (bookTests h t) (book-passed h t (passed-book h t (ask q room) e) .1)), refl)
+    go zero e = (sym (adds-head h t (adds-up h t (book-passed h t (passed-book h t (ask q room) e) .1))), refl)
     go (suc n) e = (refl, refl)

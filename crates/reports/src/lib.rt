@@ -6,9 +6,8 @@ ghost use lib.ListN.{length, drop, replicate};
 ghost use Rattle.table.specs.Table.{piecesOf};
 ghost use Rattle.refusal.specs.Numbers.{first};
 ghost use Rattle.book.specs.declared.Report.the-variants.{Held, Spread, Whole};
-ghost use Rattle.book.specs.Calls.{ask};
-ghost use Rattle.book.specs.Memory.{callOn, reported};
 ghost use Rattle.book.specs.Reports.{heldRow, rows, reportRow, reportChecks, onto};
+ghost use Rattle.reports.specs.Asking.{Asks};
 ghost use Rattle.reports.specs.Scatter.{born, counted, indexOf, entered, scatter, Enterable, Fillable, rowOf, Tallied, Reportable};
 use book::Head;
 use book::Report;
@@ -185,8 +184,7 @@ fn refusal_to(asked: Report, vessels: u32, room: usize) -> u32
 
 // What is asked of the book, written to the room.
 pub fn report(head: Head, table: &[u32], asked: Report, room: &mut [u32]) -> Reported
-    ensures { λ r. ⌜ (r ≡ reported (callOn head (now (table .entry)) (ask asked (now (room .entry)))))
-        × (now (room .exit) ≡ (callOn head (now (table .entry)) (ask asked (now (room .entry)))) .room) ⌝ }
+    ensures { λ r. ⌜ Asks head asked (now (table .entry)) (now (room .entry)) (now (room .exit)) r ⌝ }
 {
     let off = audit::refusal_of(head, table);
     if off != 0 {
@@ -203,8 +201,7 @@ pub fn report(head: Head, table: &[u32], asked: Report, room: &mut [u32]) -> Rep
 
 // The weight by origin in a vessel.
 pub fn held(head: Head, table: &[u32], vessel: u32, room: &mut [u32]) -> Reported
-    ensures { λ r. ⌜ (r ≡ reported (callOn head (now (table .entry)) (ask (Held vessel) (now (room .entry)))))
-        × (now (room .exit) ≡ (callOn head (now (table .entry)) (ask (Held vessel) (now (room .entry)))) .room) ⌝ }
+    ensures { λ r. ⌜ Asks head (Held vessel) (now (table .entry)) (now (room .entry)) (now (room .exit)) r ⌝ }
 {
     report(head, table, Report::Held(vessel), room)
 }
@@ -218,16 +215,14 @@ pub fn spread(
     to: u32,
     room: &mut [u32],
 ) -> Reported
-    ensures { λ r. ⌜ (r ≡ reported (callOn head (now (table .entry)) (ask (Spread origin from to) (now (room .entry)))))
-        × (now (room .exit) ≡ (callOn head (now (table .entry)) (ask (Spread origin from to) (now (room .entry)))) .room) ⌝ }
+    ensures { λ r. ⌜ Asks head (Spread origin from to) (now (table .entry)) (now (room .entry)) (now (room .exit)) r ⌝ }
 {
     report(head, table, Report::Spread(origin, from, to), room)
 }
 
 // The held reports of all vessels, row by row.
 pub fn whole(head: Head, table: &[u32], room: &mut [u32]) -> Reported
-    ensures { λ r. ⌜ (r ≡ reported (callOn head (now (table .entry)) (ask Whole (now (room .entry)))))
-        × (now (room .exit) ≡ (callOn head (now (table .entry)) (ask Whole (now (room .entry)))) .room) ⌝ }
+    ensures { λ r. ⌜ Asks head Whole (now (table .entry)) (now (room .entry)) (now (room .exit)) r ⌝ }
 {
     report(head, table, Report::Whole, room)
 }

@@ -10,7 +10,7 @@ name-requires : tie.Need-name-requires
 name-requires c κs = search needs
 
 returns : tie.Need-returns
-returns c = ap length (c .name .ensures)
+returns c = ap length (c .name .ensures .bytes)
 
 pub lumchaki-name-spec : {M : Type 1} → statement M
 lumchaki-name-spec = tie.close (tie.spec name-requires returns)
