@@ -7,6 +7,7 @@ use mathlib.Core.List.{List}
 use Prim.Native.Nat.{ℕ, _*_, _≤_, _<_}
 use lib.ListN.{length, drop}
 use borrow.Author.Tests.{leb-true}
+use Rattle.table.specs.declared.Piece.{Piece}
 use Rattle.table.specs.Pieces.{held, All}
 use Rattle.table.specs.Table.{piecesOf, placesOf}
 use Rattle.table.proofs.Pieces.{all-map}
@@ -51,6 +52,20 @@ adds-up h t a = by-name h t (hold (bookTests h t) a)
 pub adds-head : (h : Head) (t : List ℕ) → AddsUp h t → h ≡ headOf (bookOf h t)
 adds-head h t u = rw (length-pieces (h .pieces) t, ← (u .balances-are))
 
+-- its balances are what the holders hold
+module _ (h : Head) (t : List ℕ) (u : AddsUp h t) where
+  abbrev ps : List Piece
+  ps = piecesOf (h .pieces) t
+
+  holders : All (λ p. p .holder < h .vessels) ps
+  holders = all-map (λ p f. f .holder-in) (u .sound)
+
+  adds-match : Matches (h .balances) ps
+  adds-match = balances-match (h .vessels) (h .balances) ps holders (u .balances-are)
+
+  pub adds-balance : (v : ℕ) → balanceAt h v ≡ held v ps
+  adds-balance = balance-held h (h .vessels) ps (u .vessels-fit) holders adds-match
+
 -- A book in memory that adds up, with numbers of 32 bits.
 pub record Known (h : Head) (t : List ℕ) : Type 0 where
   pub adds : addsUp h t ≡ true
@@ -65,11 +80,8 @@ pub record Known (h : Head) (t : List ℕ) : Type 0 where
 pub known-up : (h : Head) (t : List ℕ) → Sized h → addsUp h t ≡ true → Known h t
 known-up h t z a =
     let u = adds-up h t a in
-    let ps = piecesOf (h .pieces) t in
     let long = length-pieces (h .pieces) t in
-    let holders = all-map (λ p f. f .holder-in) (u .sound) in
-    let m = balances-match (h .vessels) (h .balances) ps holders (u .balances-are) in
-    let b = balance-held h (h .vessels) ps (u .vessels-fit) holders m in
+    let b = adds-balance h t u in
     let room = places-fit t (h .pieces) (placesOf t) refl (u .few) in
     record {
       adds = a;
@@ -87,7 +99,7 @@ known-up h t z a =
       on = record { head-is = adds-head h t u; lies = record { tail = drop (4 * h .pieces) t; table-is = formed (h .pieces) t room; places-is = refl } };
       few = u .few;
       there = room;
-      matches = m;
+      matches = adds-match h t u;
       balance = b;
     }
 

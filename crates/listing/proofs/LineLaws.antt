@@ -15,7 +15,7 @@ use Rattle.table.proofs.Table.{length-pieces}
 use Rattle.fields.proofs.PutLaws.{put-then}
 use Rattle.run.specs.declared.Ran.{Ran}
 use Rattle.fields.proofs.CheckLaws.{not-zero}
-use Rattle.listing.specs.Listing.{Put, Listed, pieceLine, pieceLines, stoppedLine, lastLine, refusedLine, bookText, listingText, roomFor}
+use Rattle.listing.specs.Listing.{Put, Listed, pieceLine, pieceLines, stoppedLine, lastLine, refusedLine, bookText, listingText, lastSize, refusedSize, roomFor}
 
 module _ (t : List ℕ) (n i : ℕ) where
   -- the lines of the pieces from place i on
@@ -54,10 +54,10 @@ lines-put out out₀ t at next n i h e k =
 
 -- the last line, if there is one
 module _ (l : List ℕ) (at index number : ℕ) where
-  pub last-none : number ≡ 0 → Put l at (lastLine index number) at l × (at ≤ at + 33)
+  pub last-none : number ≡ 0 → Put l at (lastLine index number) at l × (at ≤ at + lastSize)
   last-none e = rw e (record { next-is = omega arith; after-is = refl }, omega arith)
 
-  pub last-stopped : (l′ : List ℕ) (r : ℕ) → (number ≡ 0 → ⊥) → Put l at (stoppedLine index number) r l′ × (r ≤ at + 33) → Put l at (lastLine index number) r l′ × (r ≤ at + 33)
+  pub last-stopped : (l′ : List ℕ) (r : ℕ) → (number ≡ 0 → ⊥) → Put l at (stoppedLine index number) r l′ × (r ≤ at + lastSize) → Put l at (lastLine index number) r l′ × (r ≤ at + lastSize)
   last-stopped l′ r h p = rw (← (not-zero number [] (stoppedLine index number) h)) p
 
 -- a text put at the start
@@ -73,9 +73,9 @@ listed {l} {l′} {text} {r} k h p =
 
 -- the two ways to list a run
 module _ (l l′ : List ℕ) (ran : Ran) (ps : List Piece) (r : ℕ) where
-  pub listed-refused : ran .head .vessels ≡ 0 → roomFor (ran .head .pieces) ≤ length l → Put l 0 (refusedLine (ran .number)) r l′ × (r ≤ 19) → Listed l (listingText ran ps) r l′
+  pub listed-refused : ran .head .vessels ≡ 0 → roomFor (ran .head .pieces) ≤ length l → Put l 0 (refusedLine (ran .number)) r l′ × (r ≤ refusedSize) → Listed l (listingText ran ps) r l′
   unfolding listingText
-  listed-refused e h p = rw e (listed 19 (omega arith) p)
+  listed-refused e h p = rw e (listed refusedSize (omega arith) p)
 
   pub listed-book : (ran .head .vessels ≡ 0 → ⊥) → roomFor (ran .head .pieces) ≤ length l → Put l 0 (bookText ran ps) r l′ × (r ≤ roomFor (ran .head .pieces))
       → Listed l (listingText ran ps) r l′

@@ -3,6 +3,10 @@ use mathlib.Core.List.{List, [], _∷_, _++_}
 use Prim.Native.Nat.{ℕ, zero, suc, _+_, _/_, _%_}
 use Rattle.refusal.specs.Numbers.{ifZero}
 
+-- of a number of 32 bits
+abbrev pub mostDigits : ℕ
+mostDigits = 10
+
 -- the byte of the last digit
 abbrev pub lastDigit : ℕ → ℕ
 lastDigit n = 48 + n % 10

@@ -8,7 +8,7 @@ use lib.ListN.{length, drop}
 use lib.Seq.{sets}
 use Rattle.refusal.specs.Numbers.{ifZero}
 use Rattle.table.specs.declared.Piece.{Piece}
-use Rattle.table.specs.Table.{piecesOf}
+use Rattle.table.specs.Table.{mostPlaces, piecesOf}
 use Rattle.book.specs.declared.Head.{Head}
 use Rattle.run.specs.declared.Ran.{Ran}
 use Rattle.run.specs.Run.{running}
@@ -61,13 +61,25 @@ listingOf r t = listingText r (piecesOf (r .head .pieces) t)
 abbrev pub sheetListing : List ℕ → List ℕ → List ℕ
 sheetListing s t = listingOf ((running s t) .answer) ((running s t) .table)
 
--- room for the listing of so many pieces: 89 bytes for the first line, 44 for a piece, 33 for the last line
-abbrev pub roomFor : ℕ → ℕ
-roomFor n = 122 + 44 * n
+-- the most bytes of each line: its words, with ten digits for each number
+abbrev pub firstSize : ℕ
+firstSize = 89
 
--- room for every listing: no table has more than 4,096 places
+abbrev pub pieceSize : ℕ
+pieceSize = 44
+
+abbrev pub lastSize : ℕ
+lastSize = 33
+
+abbrev pub refusedSize : ℕ
+refusedSize = 19
+
+-- room for the listing of so many pieces, and for every listing
+abbrev pub roomFor : ℕ → ℕ
+roomFor n = firstSize + lastSize + pieceSize * n
+
 abbrev pub listingRoom : ℕ
-listingRoom = 180346
+listingRoom = roomFor mostPlaces
 
 -- A text put into bytes at an index: the index behind it, and the bytes after.
 pub record Put (before : List ℕ) (at : ℕ) (text : List ℕ) (next : ℕ) (after : List ℕ) : Type 0 where
@@ -79,3 +91,8 @@ pub record Listed (before text : List ℕ) (count : ℕ) (after : List ℕ) : Ty
   pub count-is : count ≡ length text
   pub room : count ≤ length after
   pub after-is : after ≡ text ++ drop (length text) before
+
+-- What listing a sheet promises: the listing at the start of the bytes, and the table as the run left it.
+pub record ListsSheet (s t before : List ℕ) (count : ℕ) (t′ after : List ℕ) : Type 0 where
+  pub listing : Listed before (sheetListing s t) count after
+  pub table : t′ ≡ (running s t) .table

@@ -1,10 +1,9 @@
 // The listing of a run as text, put into bytes that the caller lends.
-ghost use mathlib.Core.Path.{_≡_};
 ghost use Prim.Native.Nat.{_+_, _*_, _≤_};
 ghost use lib.ListN.{length};
 ghost use Rattle.table.specs.Table.{piecesOf};
-ghost use Rattle.run.specs.Run.{running};
-ghost use Rattle.listing.specs.Listing.{Put, Listed, firstLine, pieceLine, pieceLines, stoppedLine, refusedLine, lastLine, bookText, listingOf, sheetListing, roomFor, listingRoom};
+ghost use Rattle.listing.specs.Listing.{firstLine, pieceLine, pieceLines, stoppedLine, refusedLine, lastLine, bookText, listingOf};
+ghost use Rattle.listing.specs.Listing.{Put, Listed, ListsSheet, firstSize, pieceSize, lastSize, refusedSize, roomFor, listingRoom};
 use book::Head;
 use run::Ran;
 use table::Piece;
@@ -12,15 +11,22 @@ use text::put_number;
 use text::put_text;
 use text::put_word;
 
-// Bytes that are room for every listing of a table: 122 for the first and the last line, 44 for each of 4,096 pieces.
-pub const ROOM: usize = 180346;
+// The most bytes of the first line, of a piece's and of the last.
+const FIRST: usize = 89;
+
+const PIECE: usize = 44;
+
+const LAST: usize = 33;
+
+// Bytes that are room for every listing of a table.
+pub const ROOM: usize = FIRST + LAST + PIECE * table::PLACES;
 
 mod text; // text.rt: a text, a number and a word put into bytes
 
 // The first line.
 fn put_first(out: &mut [u8], head: Head, even: u32) -> usize
-    requires { ⌜ 89 ≤ length (now out) ⌝ }
-    ensures { λ r. ⌜ Put (now (out .entry)) 0 (firstLine head even) r (now (out .exit)) × (r ≤ 89) ⌝ }
+    requires { ⌜ firstSize ≤ length (now out) ⌝ }
+    ensures { λ r. ⌜ Put (now (out .entry)) 0 (firstLine head even) r (now (out .exit)) × (r ≤ firstSize) ⌝ }
 {
     let rule_at = put_word(out, 0, b"vessels ", head.vessels);
     let accepted_at = put_word(out, rule_at, b" rule ", head.rule);
@@ -32,8 +38,8 @@ fn put_first(out: &mut [u8], head: Head, even: u32) -> usize
 
 // The line of a piece.
 fn put_piece(out: &mut [u8], at: usize, p: Piece) -> usize
-    requires { ⌜ at + 44 ≤ length (now out) ⌝ }
-    ensures { λ r. ⌜ Put (now (out .entry)) at (pieceLine p) r (now (out .exit)) × (r ≤ at + 44) ⌝ }
+    requires { ⌜ at + pieceSize ≤ length (now out) ⌝ }
+    ensures { λ r. ⌜ Put (now (out .entry)) at (pieceLine p) r (now (out .exit)) × (r ≤ at + pieceSize) ⌝ }
 {
     let origin_at = put_number(out, at, p.holder);
     let birth_at = put_word(out, origin_at, b" ", p.origin);
@@ -44,8 +50,8 @@ fn put_piece(out: &mut [u8], at: usize, p: Piece) -> usize
 
 // The lines of n pieces.
 fn put_pieces(out: &mut [u8], at: usize, table: &[u32], n: usize) -> usize
-    requires { ⌜ (4 * n ≤ length (now table)) × (at + 44 * n ≤ length (now out)) ⌝ }
-    ensures { λ r. ⌜ Put (now (out .entry)) at (pieceLines (piecesOf n (now (table .entry)))) r (now (out .exit)) × (r ≤ at + 44 * n) ⌝ }
+    requires { ⌜ (4 * n ≤ length (now table)) × (at + pieceSize * n ≤ length (now out)) ⌝ }
+    ensures { λ r. ⌜ Put (now (out .entry)) at (pieceLines (piecesOf n (now (table .entry)))) r (now (out .exit)) × (r ≤ at + pieceSize * n) ⌝ }
 {
     let mut next = at;
     let mut i: usize = 0;
@@ -59,8 +65,8 @@ fn put_pieces(out: &mut [u8], at: usize, table: &[u32], n: usize) -> usize
 
 // The last line of a stopped run.
 fn put_stopped(out: &mut [u8], at: usize, index: u32, number: u32) -> usize
-    requires { ⌜ at + 33 ≤ length (now out) ⌝ }
-    ensures { λ r. ⌜ Put (now (out .entry)) at (stoppedLine index number) r (now (out .exit)) × (r ≤ at + 33) ⌝ }
+    requires { ⌜ at + lastSize ≤ length (now out) ⌝ }
+    ensures { λ r. ⌜ Put (now (out .entry)) at (stoppedLine index number) r (now (out .exit)) × (r ≤ at + lastSize) ⌝ }
 {
     let number_at = put_word(out, at, b"stopped ", index);
     let behind = put_word(out, number_at, b" at ", number);
@@ -69,8 +75,8 @@ fn put_stopped(out: &mut [u8], at: usize, index: u32, number: u32) -> usize
 
 // The last line, where the run was stopped.
 fn put_last(out: &mut [u8], at: usize, index: u32, number: u32) -> usize
-    requires { ⌜ at + 33 ≤ length (now out) ⌝ }
-    ensures { λ r. ⌜ Put (now (out .entry)) at (lastLine index number) r (now (out .exit)) × (r ≤ at + 33) ⌝ }
+    requires { ⌜ at + lastSize ≤ length (now out) ⌝ }
+    ensures { λ r. ⌜ Put (now (out .entry)) at (lastLine index number) r (now (out .exit)) × (r ≤ at + lastSize) ⌝ }
 {
     if number == 0 {
         return at;
@@ -80,8 +86,8 @@ fn put_last(out: &mut [u8], at: usize, index: u32, number: u32) -> usize
 
 // The only line of a refused run.
 fn put_refused(out: &mut [u8], number: u32) -> usize
-    requires { ⌜ 19 ≤ length (now out) ⌝ }
-    ensures { λ r. ⌜ Put (now (out .entry)) 0 (refusedLine number) r (now (out .exit)) × (r ≤ 19) ⌝ }
+    requires { ⌜ refusedSize ≤ length (now out) ⌝ }
+    ensures { λ r. ⌜ Put (now (out .entry)) 0 (refusedLine number) r (now (out .exit)) × (r ≤ refusedSize) ⌝ }
 {
     let behind = put_word(out, 0, b"refused ", number);
     put_text(out, behind, b"\n")
@@ -90,7 +96,8 @@ fn put_refused(out: &mut [u8], number: u32) -> usize
 // The lines of a run that ended with a book.
 fn put_book(out: &mut [u8], ran: Ran, table: &[u32]) -> usize
     requires { ⌜ (4 * ran .head .pieces ≤ length (now table)) × (roomFor (ran .head .pieces) ≤ length (now out)) ⌝ }
-    ensures { λ r. ⌜ Put (now (out .entry)) 0 (bookText ran (piecesOf (ran .head .pieces) (now (table .entry)))) r (now (out .exit)) × (r ≤ roomFor (ran .head .pieces)) ⌝ }
+    ensures { λ r. ⌜ Put (now (out .entry)) 0 (bookText ran (piecesOf (ran .head .pieces) (now (table .entry)))) r (now (out .exit))
+        × (r ≤ roomFor (ran .head .pieces)) ⌝ }
 {
     let head = ran.head;
     let n = head.pieces as usize;
@@ -114,7 +121,7 @@ pub fn put_listing(ran: Ran, table: &[u32], out: &mut [u8]) -> usize
 // Runs a sheet on the table and lists the run.
 pub fn list_sheet(sheet: &[u8], table: &mut [u32], out: &mut [u8]) -> usize
     requires { ⌜ listingRoom ≤ length (now out) ⌝ }
-    ensures { λ r. ⌜ Listed (now (out .entry)) (sheetListing (now (sheet .entry)) (now (table .entry))) r (now (out .exit)) × (now (table .exit) ≡ (running (now (sheet .entry)) (now (table .entry))) .table) ⌝ }
+    ensures { λ r. ⌜ ListsSheet (now (sheet .entry)) (now (table .entry)) (now (out .entry)) r (now (table .exit)) (now (out .exit)) ⌝ }
 {
     let ran = run::run(sheet, table);
     put_listing(ran, table, out)

@@ -2,7 +2,7 @@
 ghost use mathlib.Core.Path.{_≡_};
 ghost use Prim.Native.Nat.{_+_, _<_, _≤_};
 ghost use lib.ListN.{length, drop};
-ghost use Rattle.listing.specs.Digits.{decimal, lastDigit};
+ghost use Rattle.listing.specs.Digits.{mostDigits, decimal, lastDigit};
 ghost use Rattle.listing.specs.Listing.{Put, word};
 
 const DIGITS: usize = 10; // of a number of 32 bits at most
@@ -25,8 +25,8 @@ fn last_digit(n: u32) -> u8
 
 // Puts the digits of n at the end of ten bytes, and yields where they start.
 fn spell(n: u32, text: &mut [u8]) -> usize
-    requires { ⌜ length (now text) ≡ 10 ⌝ }
-    ensures { λ r. ⌜ (r < 10) × (length (now (text .exit)) ≡ 10) × (drop r (now (text .exit)) ≡ decimal n) ⌝ }
+    requires { ⌜ length (now text) ≡ mostDigits ⌝ }
+    ensures { λ r. ⌜ (r < mostDigits) × (length (now (text .exit)) ≡ mostDigits) × (drop r (now (text .exit)) ≡ decimal n) ⌝ }
 {
     let mut i = DIGITS - 1;
     text[i] = last_digit(n);
@@ -41,18 +41,18 @@ fn spell(n: u32, text: &mut [u8]) -> usize
 
 // Puts a number in decimal.
 pub fn put_number(out: &mut [u8], at: usize, n: u32) -> usize
-    requires { ⌜ at + 10 ≤ length (now out) ⌝ }
-    ensures { λ r. ⌜ Put (now (out .entry)) at (decimal n) r (now (out .exit)) × (r ≤ at + 10) ⌝ }
+    requires { ⌜ at + mostDigits ≤ length (now out) ⌝ }
+    ensures { λ r. ⌜ Put (now (out .entry)) at (decimal n) r (now (out .exit)) × (r ≤ at + mostDigits) ⌝ }
 {
-    let mut digits = [0u8; 10];
+    let mut digits = [0u8; DIGITS];
     let start = spell(n, &mut digits);
     put_text(out, at, &digits[start..])
 }
 
 // Puts a word and a number behind it.
 pub fn put_word(out: &mut [u8], at: usize, text: &[u8], n: u32) -> usize
-    requires { ⌜ at + length (now text) + 10 ≤ length (now out) ⌝ }
-    ensures { λ r. ⌜ Put (now (out .entry)) at (word (now (text .entry)) n) r (now (out .exit)) × (r ≤ at + length (now (text .entry)) + 10) ⌝ }
+    requires { ⌜ at + length (now text) + mostDigits ≤ length (now out) ⌝ }
+    ensures { λ r. ⌜ Put (now (out .entry)) at (word (now (text .entry)) n) r (now (out .exit)) × (r ≤ at + length (now (text .entry)) + mostDigits) ⌝ }
 {
     let behind = put_text(out, at, text);
     put_number(out, behind, n)

@@ -21,9 +21,9 @@ use Rattle.refusal.specs.Numbers.{TOP, first}
 use Rattle.book.specs.declared.Head.{Head}
 use Rattle.book.specs.declared.Report.{Report}
 use Rattle.book.specs.declared.Report.the-variants.{Held, Spread, Whole}
-use Rattle.book.specs.Head.{balanceAt, tab}
+use Rattle.book.specs.Head.{balanceAt, tab, addsUp}
 use Rattle.book.specs.Reports.{fromOrigin, heldRow, bornWithin, spreadRow, rows, reportChecks}
-use Rattle.book.proofs.Known.{Known}
+use Rattle.book.proofs.Known.{adds-up, adds-balance}
 use Rattle.reports.proofs.Scattered.{row-at}
 use Rattle.reports.proofs.Filling.{length-row}
 
@@ -68,8 +68,8 @@ held-adds size v (also {p = p} {ps = ps} h x) =
     ∙ omega (arith, added-one (p .origin) (eqb (p .holder) v) (p .weight) 0 size (omega arith) (omega arith), held-adds size v x)
 
 -- so on a book that adds up it is the vessel's balance
-pub held-balance : (h : Head) (t : List ℕ) → Known h t → (v : ℕ) → added (heldRow (h .vessels) v (piecesOf (h .pieces) t)) ≡ balanceAt h v
-held-balance h t k v = held-adds (h .vessels) v (all-map (λ p f. f .origin-in) (k .sound .sound)) ∙ sym (k .balance v)
+pub held-balance : (h : Head) (t : List ℕ) → addsUp h t ≡ true → (v : ℕ) → added (heldRow (h .vessels) v (piecesOf (h .pieces) t)) ≡ balanceAt h v
+held-balance h t a v = let u = adds-up h t a in held-adds (h .vessels) v (all-map (λ p f. f .origin-in) (u .sound)) ∙ sym (adds-balance h t u v)
 
 -- WHOLE: "vessel v's row starts at number v × V and is its held report."
 rows-at : (size w n v u : ℕ) (ps : List Piece) → v < n → u < size → getD (rows size w n ps) (v * size + u) 0 ≡ getD (heldRow size (w + v) ps) u 0

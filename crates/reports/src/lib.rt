@@ -134,7 +134,8 @@ fn fill_whole(table: &[u32], n: usize, vessels: u32, report: &mut [u32])
 
 // What is asked, at the start of room that its checks found long enough.
 fn fill(table: &[u32], n: usize, vessels: u32, asked: Report, room: &mut [u32])
-    requires { ⌜ (4 * n ≤ length (now table)) × (first (reportChecks vessels (length (now room)) asked) ≡ 0) × Reportable vessels (piecesOf n (now table)) ⌝ }
+    requires { ⌜ (4 * n ≤ length (now table)) × (first (reportChecks vessels (length (now room)) asked) ≡ 0)
+        × Reportable vessels (piecesOf n (now table)) ⌝ }
     ensures { λ _. ⌜ now (room .exit) ≡ onto (reportRow vessels (piecesOf n (now (table .entry))) asked) (now (room .entry)) ⌝ }
 {
     match asked {

@@ -36,11 +36,13 @@ loop-less c = search needs
 
 loop-again : tie.Need-loop-again Inv-loop μ-loop
 loop-again c =
-    let x = c .before .before .before .before .before in
-    let l = x .before .before .before in
-    let a = l .before in
-    let s = a .before .before .before .before .before in
-    going-next _ _ _ _ _ _ _ _ _ _ _ (a .loop .inv) _ _ _ (l .loop-test .taken) (s .pre .1) (x .call-at .ensures) (c .before .before .before .before .table .given) (c .before .before .room .given)
+    let written = c .before .before in
+    let called = written .before .before .before in
+    let turn = called .before .before .before in
+    let loop = turn .before in
+    let start = loop .before .before .before .before .before in
+    going-next _ _ _ _ _ _ _ _ _ _ _ (loop .loop .inv) _ _ _ (turn .loop-test .taken) (start .pre .1) (called .call-at .ensures)
+    (written .before .before .table .given) (written .room .given)
 
 same-length : tie.Need-same-length Inv-loop μ-loop
 same-length c = search needs

@@ -31,7 +31,7 @@ array-share-prefix-text : tie.Need-array-share-prefix-text
 array-share-prefix-text c = search needs
 
 slice-aggregate-write-all : tie.Need-slice-aggregate-write-all
-slice-aggregate-write-all c = sym (length-take-le _ _ (c .before .before .before .list-sheet .ensures .0 .room))
+slice-aggregate-write-all c = sym (length-take-le _ _ (c .before .before .before .list-sheet .ensures .listing .room))
 
 write-all-requires : tie.Need-write-all-requires
 write-all-requires c κs = search needs

@@ -23,7 +23,7 @@ same-length-2 c = search needs
 returns : tie.Need-returns
 returns c =
     let ran = c .before .before .before .before .before .before .before in
-    (list-done _ _ _ _ (ran .run .ensures) _ _ _ (c .before .before .put-listing .ensures), ran .run .ensures .table-is)
+    record { listing = list-done _ _ _ _ (ran .run .ensures) _ _ _ (c .before .before .put-listing .ensures); table = ran .run .ensures .table-is }
 
 pub list-sheet-spec : {M : Type 1} → statement M
 list-sheet-spec =

@@ -15,7 +15,7 @@ same-length : tie.Need-same-length
 same-length c = search needs
 
 returns-2 : tie.Need-returns-2
-returns-2 c = last-stopped _ _ _ _ _ _ (c .before .before .before .before .if1 .left) (c .before .before .put-stopped .ensures)
+returns-2 c = let put = c .before .before in let stopped = put .before .before in last-stopped _ _ _ _ _ _ (stopped .if1 .left) (put .put-stopped .ensures)
 
 pub put-last-spec : {M : Type 1} → statement M
 put-last-spec = tie.close (tie.spec returns put-stopped-requires same-length returns-2)

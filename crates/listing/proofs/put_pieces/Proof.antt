@@ -6,13 +6,13 @@ use mathlib.Core.Path.{_≡_}
 use lib.ListN.{length}
 use lib.Seq.{sets}
 use Rattle.table.specs.Table.{piecesOf}
-use Rattle.listing.specs.Listing.{pieceLines}
+use Rattle.listing.specs.Listing.{pieceLines, pieceSize}
 use Rattle.listing.proofs.LineLaws.{linesLeft, bytes-turn, count-turn, lines-put}
 use Rattle.listing.proofs.put_pieces.Statement.{statement}
 use Rattle.listing.proofs.put_pieces.Tie as tie
 
 abbrev Inv-loop : tie.InvT-loop
-Inv-loop out₀ at table n next₀ i₀ out next i = (i ≤ n) × (length out ≡ length out₀) × (next ≤ at + 44 * i) × (sets out next (linesLeft table n i) ≡ sets out₀ at (pieceLines (piecesOf n table))) × (next + length (linesLeft table n i) ≡ at + length (pieceLines (piecesOf n table)))
+Inv-loop out₀ at table n next₀ i₀ out next i = (i ≤ n) × (length out ≡ length out₀) × (next ≤ at + pieceSize * i) × (sets out next (linesLeft table n i) ≡ sets out₀ at (pieceLines (piecesOf n table))) × (next + length (linesLeft table n i) ≡ at + length (pieceLines (piecesOf n table)))
 
 abbrev μ-loop : tie.MeasureT-loop
 μ-loop out₀ at table n next₀ i₀ out next i = n - i

@@ -13,7 +13,8 @@ returns c = (search needs, search (needs, write-refused))
 put-sheet-requires : tie.Need-put-sheet-requires
 put-sheet-requires c κs =
     let counted = c .before .before in
-    put-fits _ _ _ _ _ (counted .before .before .before .before .args .out .now) (counted .write-number .ensures) (c .before .if1 .left)
+    let start = counted .before .before .before .before in
+    put-fits _ _ _ _ _ (start .args .out .now) (counted .write-number .ensures) (c .before .if1 .left)
 
 same-length : tie.Need-same-length
 same-length c = search needs

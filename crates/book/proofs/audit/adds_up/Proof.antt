@@ -33,7 +33,7 @@ returns-5 : tie.Need-returns-5
 returns-5 c = search (needs, tally-short)
 
 drains-requires : tie.Need-drains-requires
-drains-requires c κs = (places-fit _ _ _ (c .before .before .before .before .places .ensures) (c .before .before .before .if4 .left), search needs)
+drains-requires c κs = let few = c .before .before .before in (places-fit _ _ _ (few .before .places .ensures) (few .if4 .left), search needs)
 
 returns-6 : tie.Need-returns-6
 returns-6 c = search (needs, adds-end)

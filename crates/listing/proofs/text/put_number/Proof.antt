@@ -27,7 +27,7 @@ same-length : tie.Need-same-length
 same-length c = search needs
 
 returns : tie.Need-returns
-returns c = number-put _ _ _ (c .before .before .before .before .before .before .before .spell .ensures) (c .before .before .put-text .ensures)
+returns c = let put = c .before .before in let spelled = put .before .before .before .before .before in number-put _ _ _ (spelled .spell .ensures) (put .put-text .ensures)
 
 pub put-number-spec : {M : Type 1} → statement M
 put-number-spec =

@@ -15,7 +15,7 @@ same-length : tie.Need-same-length
 same-length c = search needs
 
 returns : tie.Need-returns
-returns c = word-put (c .before .before .before .before .before .before .put-text .ensures) (c .before .before .put-number .ensures)
+returns c = let number = c .before .before in let word = number .before .before .before .before in word-put (word .put-text .ensures) (number .put-number .ensures)
 
 pub put-word-spec : {M : Type 1} → statement M
 put-word-spec = tie.close (tie.spec put-text-requires put-number-requires same-length returns)
