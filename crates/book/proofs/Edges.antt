@@ -12,9 +12,11 @@ use borrow.Author.Tests.{lt-leb}
 use Rattle.table.specs.Table.{mostPlaces, piecesOf, placesOf}
 use Rattle.refusal.specs.Numbers.{TOP, first}
 use Rattle.book.specs.declared.Head.{Head}
-use Rattle.book.specs.declared.Transfer.{Transfer}
+use Rattle.book.specs.declared.Report.{Report}
+use Rattle.book.specs.declared.Report.the-variants.{Held, Spread, Whole}
 use Rattle.book.specs.Head.{lastRule, mostVessels, tab, balancesOf, allFit, same, addsUp, opening}
-use Rattle.book.specs.Transfer.{Standing, transferOf, transferChecks}
+use Rattle.book.specs.Transfer.{transferOf, transferChecks}
+use Rattle.book.specs.Reports.{reportChecks}
 use Rattle.book.specs.Memory.{bookChecks}
 
 -- a test, and what it is to say
@@ -30,6 +32,10 @@ book rule vessels pieces last accepted balances t =
 -- the number of a transfer where three vessels hold 5 each, the last minute is 7 and so many were accepted
 abbrev move : ℕ → ℕ → ℕ → ℕ → ℕ → ℕ
 move accepted s d t q = first (transferChecks (record { vessels = 3; balance = λ v. 5; last = 7; accepted = accepted }) (transferOf s d t q))
+
+-- the number of a report on three vessels, with so much room
+abbrev report : Report → ℕ → ℕ
+report q room = first (reportChecks 3 room q)
 
 abbrev _gives_ : ℕ → ℕ → Edge
 n gives m = record { found = n; wanted = m }
@@ -85,10 +91,23 @@ edges =
     ∷ move TOP 2 1 7 (TOP - 4) gives 9
     ∷ move (TOP - 1) 2 1 7 1 gives 0
     ∷ move TOP 2 1 7 1 gives 10
+    -- checks 5, 12, 13 of a report, and their order
+    ∷ report (Held 2) 3 gives 0
+    ∷ report (Held 3) 3 gives 5
+    ∷ report (Held 3) 2 gives 5
+    ∷ report (Held 0) 2 gives 13
+    ∷ report (Spread 2 5 5) 3 gives 0
+    ∷ report (Spread 3 5 5) 3 gives 5
+    ∷ report (Spread 3 5 4) 2 gives 5
+    ∷ report (Spread 0 5 4) 3 gives 12
+    ∷ report (Spread 0 5 4) 2 gives 12
+    ∷ report (Spread 0 5 5) 2 gives 13
+    ∷ report Whole 8 gives 13
+    ∷ report Whole 9 gives 0
     ∷ []
 
 pub at-the-edge : map (λ e. e .found) edges ≡ map (λ e. e .wanted) edges
-unfolding edges opening bookChecks addsUp allFit same balancesOf tab placesOf piecesOf transferChecks
+unfolding edges opening bookChecks addsUp allFit same balancesOf tab placesOf piecesOf transferChecks reportChecks
 at-the-edge = refl
 
 -- More pieces than a table ever counts places: no computed case reaches it.

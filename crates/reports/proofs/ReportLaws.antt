@@ -1,6 +1,6 @@
 -- What the definitions of the reports say together, in document 01's words: a held row sums to what the vessel holds, whole is made of
--- held rows, spread over every minute is a column of whole, spans that meet add up, and each check applies from its edge on.
--- So a definition that is changed alone falls out with the others.
+-- held rows, spread over every minute is a column of whole, and spans that meet add up. So a definition that is changed alone falls out with
+-- the others. book/proofs/Edges.antt has each check of a report at its edge.
 -- Assumes nothing.
 use mathlib.Core.Path.{_≡_, refl, sym, ap, _∙_}
 use mathlib.Core.Logic.{_≢_}
@@ -17,12 +17,10 @@ use Rattle.table.specs.declared.Piece.{Piece}
 use Rattle.table.specs.Pieces.{only, sum, held, All, done, also}
 use Rattle.table.specs.Table.{piecesOf}
 use Rattle.table.proofs.Pieces.{all-map}
-use Rattle.refusal.specs.Numbers.{TOP, first}
+use Rattle.refusal.specs.Numbers.{TOP}
 use Rattle.book.specs.declared.Head.{Head}
-use Rattle.book.specs.declared.Report.{Report}
-use Rattle.book.specs.declared.Report.the-variants.{Held, Spread, Whole}
 use Rattle.book.specs.Head.{balanceAt, tab, addsUp}
-use Rattle.book.specs.Reports.{fromOrigin, heldRow, bornWithin, spreadRow, rows, reportChecks}
+use Rattle.book.specs.Reports.{fromOrigin, heldRow, bornWithin, spreadRow, rows}
 use Rattle.book.proofs.Known.{adds-up, adds-balance}
 use Rattle.reports.proofs.Scattered.{row-at}
 use Rattle.reports.proofs.Filling.{length-row}
@@ -121,40 +119,3 @@ pub spread-spans : (size o v from m to : ℕ) (ps : List Piece) → v < size →
 spread-spans size o v from m to ps hv h g =
     rw (row-at (λ u. sum (bornWithin o from m u) ps) size v hv, row-at (λ u. sum (bornWithin o (m + 1) to u) ps) size v hv, row-at (λ u. sum (bornWithin o from to u) ps) size v hv)
     (spans o v from m to h g ps)
-
--- The checks at their edges, for three vessels: what is asked, the length of the room, and the number given.
-pub record Edge : Type 0 where
-  pub asked : Report
-  pub room : ℕ
-  pub number : ℕ
-
-abbrev pub edge : Report → ℕ → ℕ → Edge
-edge q room n = record { asked = q; room = room; number = n }
-
-abbrev pub edges : List Edge
-edges =
-    -- 5, "a vessel or origin ≥ V"
-    edge (Held 3) 3 5
-    ∷ edge (Held 2) 3 0
-    ∷ edge (Spread 3 5 5) 3 5
-    ∷ edge (Spread 2 5 5) 3 0
-    -- 12, "from > to"
-    ∷ edge (Spread 0 5 4) 3 12
-    ∷ edge (Spread 0 5 5) 3 0
-    -- 13, "room below V numbers, for whole below V × V"
-    ∷ edge (Held 0) 2 13
-    ∷ edge (Held 0) 3 0
-    ∷ edge (Spread 0 5 5) 2 13
-    ∷ edge (Spread 0 5 5) 3 0
-    ∷ edge Whole 8 13
-    ∷ edge Whole 9 0
-    -- "The first that applies is given."
-    ∷ edge (Held 3) 2 5
-    ∷ edge (Spread 3 5 4) 3 5
-    ∷ edge (Spread 3 5 5) 2 5
-    ∷ edge (Spread 0 5 4) 2 12
-    ∷ []
-
-pub at-edges : map (λ e. first (reportChecks 3 (e .room) (e .asked))) edges ≡ map (λ e. e .number) edges
-unfolding reportChecks
-at-edges = refl

@@ -79,6 +79,6 @@ samples =
     ∷ sample 5 (set (set bytes 48 3) 62 1)
     ∷ []
 
-pub sample-numbers : map (λ c. readNumber (c .sheet)) samples ≡ map (λ c. c .number) samples
+pub read-samples : map (λ c. readNumber (c .sheet)) samples ≡ map (λ c. c .number) samples
 unfolding sample samples bytes readNumber noSheet movementsOff layoutOff valueIn same groups exists wellFormed letters allZero entriesChecks
-sample-numbers = refl
+read-samples = refl

@@ -66,6 +66,6 @@ samples =
     ∷ given 5 2 3 names (set numbers 0 3) 0
     ∷ []
 
-pub sample-numbers : map (λ g. writeNumber (g .rule) (g .vessels) (g .names) (g .numbers) (g .room)) samples ≡ map (λ g. g .number) samples
+pub write-samples : map (λ g. writeNumber (g .rule) (g .vessels) (g .names) (g .numbers) (g .room)) samples ≡ map (λ g. g .number) samples
 unfolding given samples names numbers writeNumber givenOff movementsOff same groups exists wellFormed letters allZero entriesChecks
-sample-numbers = refl
+write-samples = refl
