@@ -6,18 +6,17 @@ use mathlib.Core.List.{List}
 use Prim.Native.Nat.{ℕ, zero, suc}
 use native.Mathlib.Omega.{arith}
 use lib.ListN.{length}
-use borrow.Author.Tests.{ltb-false}
 use Rattle.table.specs.Pieces.{done}
 use Rattle.table.specs.Table.{placesOf, flat}
 use Rattle.table.proofs.Pieces.{all-map}
 use Rattle.refusal.specs.Numbers.{first}
-use Rattle.refusal.proofs.Numbers.{Passed, passed}
 use Rattle.book.specs.declared.Head.{Head}
 use Rattle.book.specs.Head.{Book, Sized, headOf, bookOf, emptyHead, opened, openChecks}
 use Rattle.book.specs.Calls.{Call}
 use Rattle.book.specs.Memory.{outcome, numberOf, callOn}
 use Rattle.book.proofs.BalanceLaws.{balances-match, balance-held, fresh-head}
 use Rattle.book.proofs.Sound.{SoundBook, keeps}
+use Rattle.book.proofs.HeadLaws.{openable}
 use Rattle.book.proofs.Memory.{On, adds, number-same, in-step}
 use Rattle.book.proofs.Known.{Known, known-up}
 
@@ -47,20 +46,19 @@ module _ (h : Head) (t : List ℕ) (k : Known h t) (c : Call) where
       go (suc n) e = refl
 
 -- a fresh book
-by-name : (places rule size : ℕ) → Passed (openChecks rule size) → SoundBook places (opened rule size)
-by-name places rule size (above, (below, (beyond, end))) = record {
-  known = ltb-false _ rule above;
-  some-vessel = ltb-false size 1 below;
-  vessels-fit = ltb-false _ size beyond;
-  fits = omega arith;
-  counted = omega arith;
-  sound = done;
-  light = λ v. omega arith;
-  tally = omega arith;
-}
-
 pub fresh : (places rule size : ℕ) → first (openChecks rule size) ≡ 0 → SoundBook places (opened rule size)
-fresh places rule size e = by-name places rule size (passed (openChecks rule size) tt e)
+fresh places rule size e =
+    let o = openable rule size e in
+    record {
+      known = o .rule-known;
+      some-vessel = o .some-vessels;
+      vessels-fit = o .few-vessels;
+      fits = omega arith;
+      counted = omega arith;
+      sound = done;
+      light = λ v. omega arith;
+      tally = omega arith;
+    }
 
 pub fresh-on : (rule size : ℕ) (t : List ℕ) → On (placesOf t) (emptyHead rule size) t (opened rule size)
 unfolding flat

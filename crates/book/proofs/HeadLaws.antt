@@ -1,18 +1,19 @@
 -- Laws of the head: the tests by which a book adds up, what each says where it holds and that a sound piece and equal lists pass them;
--- and opening by its number.
+-- and opening: what passes its checks, and its answer by its number.
 -- Assumes nothing.
 use mathlib.Core.Path.{_≡_, refl, _∙_}
 use mathlib.Core.Bool.{Bool, true, false, _&&_}
 use mathlib.Core.List.{List, [], _∷_}
-use Prim.Native.Nat.{ℕ, zero, suc}
+use Prim.Native.Nat.{ℕ, zero, suc, _≤_}
 use lib.Dec.{eqb}
-use borrow.Author.Tests.{le-leb, leb-true, lt-ltb, ltb-true, eq-eqb, eqb-true}
+use borrow.Author.Tests.{le-leb, leb-true, lt-ltb, ltb-true, ltb-false, eq-eqb, eqb-true}
 use Rattle.table.specs.declared.Piece.{Piece}
 use Rattle.table.specs.Pieces.{All, done, also}
 use Rattle.refusal.specs.Numbers.{first}
+use Rattle.refusal.proofs.Numbers.{Passed, passed}
 use Rattle.book.specs.declared.Head.{Head}
 use Rattle.book.specs.declared.Opened.{Opened}
-use Rattle.book.specs.Head.{allOf, pieceTests, fits, allFit, same, emptyHead, notOpened, openChecks, opens, opening}
+use Rattle.book.specs.Head.{lastRule, mostVessels, allOf, pieceTests, fits, allFit, same, emptyHead, notOpened, openChecks, opens, opening}
 use Rattle.book.proofs.Sound.{SoundPiece}
 
 -- each test of the list holds
@@ -62,6 +63,18 @@ module _ (size last : ℕ) where
   unfolding allFit
   all-sound [] e = done
   all-sound (p ∷ ps) e = let u = both (fits size last p) (allFit size last ps) e in also (fit-sound p (u .0)) (all-sound ps (u .1))
+
+-- what a rule and a number of vessels are that pass opening's checks
+pub record Openable (rule size : ℕ) : Type 0 where
+  pub rule-known : rule ≤ lastRule
+  pub some-vessels : 1 ≤ size
+  pub few-vessels : size ≤ mostVessels
+
+checked : (rule size : ℕ) → Passed (openChecks rule size) → Openable rule size
+checked rule size (above, (none, (beyond, end))) = record { rule-known = ltb-false _ _ above; some-vessels = ltb-false _ _ none; few-vessels = ltb-false _ _ beyond }
+
+pub openable : (rule size : ℕ) → first (openChecks rule size) ≡ 0 → Openable rule size
+openable rule size e = checked rule size (passed (openChecks rule size) tt e)
 
 -- opening, with the number of its checks in hand
 module _ (rule size n : ℕ) (z : Opened) (e : n ≡ first (openChecks rule size)) where

@@ -10,14 +10,14 @@ use lib.ListN.{length}
 use Rattle.table.specs.Table.{piecesOf, placesOf, lay}
 use Rattle.picking.specs.InTable.{Moved, inTable}
 use Rattle.picking.proofs.InTable.{in-table}
-use Rattle.refusal.specs.Numbers.{_if_, first, ifZero}
+use Rattle.refusal.specs.Numbers.{_if_, ifZero}
 use Rattle.refusal.proofs.Numbers.{first-append}
 use Rattle.book.specs.declared.Head.{Head}
 use Rattle.book.specs.declared.Transfer.{Transfer}
 use Rattle.book.specs.Head.{bookOf}
 use Rattle.book.specs.Transfer.{ofBook, transferChecks, moveOf, takes, piecesAfter}
-use Rattle.book.specs.Calls.{Answer, post, meaning}
-use Rattle.book.specs.Memory.{Outcome, outcome, bookChecks, numberOf, callOn}
+use Rattle.book.specs.Calls.{Answer, post}
+use Rattle.book.specs.Memory.{outcome, numberOf, callOn}
 use Rattle.book.proofs.Checks.{Fit, fit}
 use Rattle.book.proofs.Memory.{on-number, passed-book}
 

@@ -7,7 +7,7 @@ use Prim.Native.Nat.{ℕ, zero, suc, _+_, _≤_}
 use native.Mathlib.Omega.{arith}
 use lib.ListN.{length}
 use Rattle.table.specs.Table.{placesOf}
-use Rattle.refusal.specs.Numbers.{first, ifZero}
+use Rattle.refusal.specs.Numbers.{first}
 use Rattle.book.specs.declared.Head.{Head}
 use Rattle.book.specs.Head.{Book, opened, openChecks, opens, opening, emptyHead}
 use Rattle.book.specs.Calls.{Call, meaning}

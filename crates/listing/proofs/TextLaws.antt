@@ -6,7 +6,7 @@ use native.Mathlib.Omega.{arith}
 use mathlib.Core.Path.{_≡_, refl, sym, ap, _∙_}
 use mathlib.Core.List.{List, [], _∷_, _++_, append-assoc}
 use lib.ListN.{length, take, drop, set, length-append, length-drop, length-set, drop-of-length-le}
-use lib.Seq.{sets, take-all, drop-cons, drop-set-lt, getD-set-same}
+use lib.Seq.{take-all, drop-cons, drop-set-lt, getD-set-same}
 use Rattle.fields.proofs.PutLaws.{put-then}
 use Rattle.listing.specs.Digits.{lastDigit, digits, decimal}
 use Rattle.listing.specs.Listing.{Put}

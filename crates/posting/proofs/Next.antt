@@ -8,7 +8,7 @@ use native.Mathlib.Numerals.{add-one}
 use native.Mathlib.Omega.{arith}
 use lib.Dec.{eqb}
 use lib.ListN.{length}
-use borrow.Author.Tests.{ltb-false, le-ltb, ne-eqb}
+use borrow.Author.Tests.{ltb-false, le-ltb}
 use Rattle.table.specs.Pieces.{only, held, All}
 use Rattle.table.specs.Table.{mostPlaces, piecesOf, placesOf}
 use Rattle.table.proofs.Pieces.{all-map}
@@ -17,7 +17,7 @@ use Rattle.picking.specs.declared.Move.{Move}
 use Rattle.picking.specs.Taking.{Taken, taken, handed}
 use Rattle.moving.specs.declared.Applied.{Applied}
 use Rattle.moving.specs.Applied.{liftedPlaces, full, refused, accepted, applied, tableLeft, Ready, Moves}
-use Rattle.refusal.specs.Numbers.{TOP, _if_, orElse, first, ifZero}
+use Rattle.refusal.specs.Numbers.{_if_, orElse, first, ifZero}
 use Rattle.book.specs.declared.Head.{Head}
 use Rattle.book.specs.declared.Transfer.{Transfer}
 use Rattle.book.specs.declared.Transferred.{Transferred}

@@ -4,7 +4,7 @@ ghost use mathlib.Core.Bool.{false};
 ghost use Prim.Native.Nat.{_≤_};
 ghost use Rattle.refusal.specs.Numbers.{first};
 ghost use Rattle.book.specs.Head.{mostVessels};
-ghost use Rattle.book.specs.Transfer.{ofHead, transferChecks, transferOf, moveOf};
+ghost use Rattle.book.specs.Transfer.{ofHead, transferChecks, moveOf};
 ghost use Rattle.posting.specs.Posting.{Posts, Workable, refusedWith, nextHead, Countable, concluded};
 use book::Head;
 use book::Transfer;

@@ -9,7 +9,7 @@ use lib.ListN.{length, take, replicate}
 use Rattle.refusal.specs.Numbers.{ifZero}
 use Rattle.book.specs.declared.Head.{Head}
 use Rattle.book.specs.declared.Transfer.{Transfer}
-use Rattle.book.specs.Head.{openChecks, opening}
+use Rattle.book.specs.Head.{opening}
 use Rattle.book.specs.Calls.{Call, post}
 use Rattle.book.specs.Memory.{Outcome, callOn}
 use Rattle.book.specs.Lists.{callsOn, evens, numbers, Demand3}
@@ -19,7 +19,7 @@ use Rattle.sheet.specs.Sheet.{ruleOf, vesselsOf, movementsOf, readNumber}
 use Rattle.run.specs.Run.{transfersOf, Running, goOn, runFrom, runNumber, running}
 use Rattle.fields.proofs.CheckLaws.{first-zero}
 use Rattle.fields.proofs.GroupLaws.{length-groups}
-use Rattle.run.proofs.RunLaws.{opens-well, opened-well}
+use Rattle.run.proofs.RunLaws.{opened-well}
 
 -- the first n transfers, as calls
 abbrev pub callsFrom : ℕ → List Transfer → List Call

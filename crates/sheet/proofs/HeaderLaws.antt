@@ -8,8 +8,8 @@ use borrow.Author.Tests.{ltb-false, eq-eqb, ne-eqb, le-ltb}
 use lib.Dec.{eqb, ltb}
 use lib.ListN.{length, take, drop}
 use Rattle.refusal.specs.Numbers.{_if_, first}
-use Rattle.refusal.proofs.Numbers.{passed}
-use Rattle.book.specs.Head.{same, lastRule, mostVessels, openChecks}
+use Rattle.book.proofs.HeadLaws.{openable}
+use Rattle.book.specs.Head.{same, mostVessels, openChecks}
 use Rattle.fields.specs.Bytes.{valueIn}
 use Rattle.fields.specs.Layout.{mark, markSize, headerSize, namesAt, entriesAt, lengthAt, sheetSize, entriesStart, leastMovements, mostMovements, movementsOff}
 use Rattle.sheet.specs.Sheet.{ruleOf, vesselsOf, movementsOf, noSheet, layoutOff, fieldChecks, headerChecks}
@@ -31,17 +31,6 @@ unfolding movementsOff
 some-movements n e =
     let h = neither (ltb n leastMovements) (ltb mostMovements n) e in
     (ltb-false _ _ (h .0), ltb-false _ _ (h .1))
-
--- What a rule and a count of vessels are that pass opening's checks.
-pub record Openable (rule vessels : ℕ) : Type 0 where
-  pub rule-known : rule ≤ lastRule
-  pub some-vessels : 1 ≤ vessels
-  pub few-vessels : vessels ≤ mostVessels
-
-pub openable : (rule vessels : ℕ) → first (openChecks rule vessels) ≡ 0 → Openable rule vessels
-openable rule vessels e =
-    let p = passed (openChecks rule vessels) tt e in
-    record { rule-known = ltb-false _ _ (p .0); some-vessels = ltb-false _ _ (p .1 .0); few-vessels = ltb-false _ _ (p .1 .1 .0) }
 
 pub few-vessels : (rule vessels n : ℕ) → n ≡ first (openChecks rule vessels) → n ≡ 0 → vessels ≤ mostVessels
 few-vessels rule vessels n e z = openable rule vessels (sym e ∙ z) .few-vessels

@@ -17,7 +17,8 @@ use Rattle.fields.specs.Layout.{leastMovements, mostMovements, headerSize, name
 use Rattle.sheet.specs.Sheet.{entriesRead, namesRead, ruleOf, vesselsOf, movementsOf, layoutOff, noSheet, headerChecks, bodyChecks, readNumber}
 use Rattle.fields.proofs.CheckLaws.{neither, same-if, past, refuses, passes, passed-first, passed-second}
 use Rattle.fields.proofs.ByteLaws.{rest-part}
-use Rattle.sheet.proofs.HeaderLaws.{Openable, openable, some-movements}
+use Rattle.book.proofs.HeadLaws.{Openable, openable}
+use Rattle.sheet.proofs.HeaderLaws.{some-movements}
 
 -- What a header lays down that passes its checks.
 pub record Laid (s : List ℕ) : Type 0 where

@@ -18,7 +18,8 @@ use Rattle.fields.specs.Movements.{givenSize, entrySize, givenIn, entriesGiven,
 use Rattle.book.specs.Head.{openChecks}
 use Rattle.writing.specs.Writing.{countGiven, givenOff, countChecks, contentChecks, roomCheck, writeNumber, sheetOf, written}
 use Rattle.fields.proofs.CheckLaws.{neither, same-if, past, not-zero, refuses, passes, passed-first, passed-second}
-use Rattle.sheet.proofs.HeaderLaws.{Openable, openable, some-movements}
+use Rattle.book.proofs.HeadLaws.{Openable, openable}
+use Rattle.sheet.proofs.HeaderLaws.{some-movements}
 use Rattle.fields.proofs.GroupLaws.{length-groups}
 use Rattle.writing.proofs.SheetPut.{length-entry, length-header}
 

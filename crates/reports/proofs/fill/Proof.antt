@@ -19,15 +19,15 @@ use Rattle.reports.proofs.fill.Tie as tie
 module _ (size room : ℕ) (asked : Report) where
   held-room : (v : ℕ) → asked ≡ Held v → first (reportChecks size room asked) ≡ 0 → size ≤ room
   unfolding reportChecks
-  held-room v a e = ltb-false _ _ (passed (reportChecks size room (Held v)) tt (rw a at e) .1 .0)
+  held-room v a e = let (vessel, (short, end)) = passed (reportChecks size room (Held v)) tt (rw a at e) in ltb-false _ _ short
 
   spread-room : (u from to : ℕ) → asked ≡ Spread u from to → first (reportChecks size room asked) ≡ 0 → size ≤ room
   unfolding reportChecks
-  spread-room u from to a e = ltb-false _ _ (passed (reportChecks size room (Spread u from to)) tt (rw a at e) .1 .1 .0)
+  spread-room u from to a e = let (origin, (back, (short, end))) = passed (reportChecks size room (Spread u from to)) tt (rw a at e) in ltb-false _ _ short
 
   whole-room : asked ≡ Whole → first (reportChecks size room asked) ≡ 0 → size * size ≤ room
   unfolding reportChecks
-  whole-room a e = ltb-false _ _ (passed (reportChecks size room Whole) tt (rw a at e) .0)
+  whole-room a e = let (short, end) = passed (reportChecks size room Whole) tt (rw a at e) in ltb-false _ _ short
 
 told : (size : ℕ) (ps : List Piece) (asked q : Report) (room r : List ℕ) → asked ≡ q → r ≡ onto (reportRow size ps q) room → r ≡ onto (reportRow size ps asked) room
 told size ps asked q room r a e = rw a e
