@@ -43,7 +43,7 @@ module _ (text out₀ out : List ℕ) (at n i : ℕ) (r : Reading text out₀ ou
         kept = ap length s ∙ length-set out at n ∙ r .kept;
         passed = omega (arith, r .passed);
         put = rw (s, add-one at) (rw left at (r .put));
-        counted = omega (arith, ap length left, r .counted)
+        counted = omega (arith, ap length left, r .counted);
       }
 
   pub byte-turn : (m : ℕ) → i < length text → (getD text i 0 ≡ space → ⊥) → m ≡ withByte n (getD text i 0) → Reading text out₀ out at m (i + 1)
@@ -54,7 +54,7 @@ module _ (text out₀ out : List ℕ) (at n i : ℕ) (r : Reading text out₀ ou
         kept = r .kept;
         passed = omega (arith, r .passed);
         put = rw left at (r .put);
-        counted = rw left at (r .counted)
+        counted = rw left at (r .counted);
       }
 
   all-counted : length text ≤ i → at + 1 ≡ length (numbersIn text)

@@ -1,7 +1,8 @@
 -- What a vector prints: its movements written as a sheet of three vessels, run on a table with a place for each, and listed.
 -- Definitions only. Assumes nothing.
 use mathlib.Core.List.{List, [], _∷_}
-use Prim.Native.Nat.{ℕ, _*_}
+use mathlib.Core.Path.{_≡_}
+use Prim.Native.Nat.{ℕ, _*_, _≤_}
 use lib.ListN.{take, replicate}
 use Rattle.fields.specs.Layout.{sheetSize}
 use Rattle.fields.specs.Movements.{givenSize}
@@ -30,12 +31,27 @@ tableRoom = 4 * mostShown
 abbrev pub vectorNumbers : List ℕ → List ℕ
 vectorNumbers text = take numbersRoom (numbersIn text)
 
+abbrev pub sheetRoom : ℕ
+sheetRoom = sheetSize vessels mostShown
+
+-- the bytes of a vector's sheet
+abbrev pub vectorSize : List ℕ → ℕ
+vectorSize text = sheetSize vessels (countGiven (vectorNumbers text))
+
+-- bytes at the start of which a vector's sheet was written
+abbrev pub vectorOn : ℕ → List ℕ → List ℕ → List ℕ
+vectorOn rule text bytes = written rule vessels names (vectorNumbers text) bytes
+
+pub record VectorWritten (rule : ℕ) (text before : List ℕ) (size : ℕ) (after : List ℕ) : Type 0 where
+  pub size-is : size ≡ vectorSize text
+  pub room : size ≤ sheetRoom
+  pub after-is : after ≡ vectorOn rule text before
+
 abbrev pub vectorSheet : ℕ → List ℕ → List ℕ
-vectorSheet rule numbers =
-    take (sheetSize vessels (countGiven numbers)) (written rule vessels names numbers (replicate (sheetSize vessels mostShown) 0))
+vectorSheet rule text = take (vectorSize text) (vectorOn rule text (replicate sheetRoom 0))
 
 abbrev pub vectorListing : ℕ → List ℕ → List ℕ
-vectorListing rule text = sheetListing (vectorSheet rule (vectorNumbers text)) (replicate tableRoom 0)
+vectorListing rule text = sheetListing (vectorSheet rule text) (replicate tableRoom 0)
 
 -- A list of calls has no more answers than this, and the whole report a weight for each pair of vessels.
 abbrev pub answersRoom : ℕ

@@ -3,7 +3,7 @@
 ghost use mathlib.Core.Path.{_≡_};
 ghost use Prim.Native.Nat.{_+_};
 ghost use lib.ListN.{length};
-ghost use Rattle.vectors.specs.Vectors.{vectorListing, answersRoom, reportRoom};
+ghost use Rattle.vectors.specs.Vectors.{VectorWritten, vectorListing, answersRoom, reportRoom};
 use fields::layout::ENTRY_SIZE;
 use fields::layout::GIVEN_SIZE;
 use fields::layout::HEADER_SIZE;
@@ -26,19 +26,32 @@ const CALL_SIZE: usize = 5; // numbers of a call
 
 const UNWRITTEN: u32 = 99; // shows where nothing is written
 
-// Lists movements (s, d, t, q) between three vessels, and prints the listing. What is known of it is its length.
+// Writes a sheet of movements (s, d, t, q) between three vessels, and yields its length.
+fn write_vector(rule: u32, text: &[u8], sheet: &mut [u8]) -> usize
+    ensures { λ r. ⌜ VectorWritten rule (now (text .entry)) (now (sheet .entry)) r (now (sheet .exit)) ⌝ }
+{
+    let mut numbers = [0u32; GIVEN_SIZE * MOVEMENTS];
+    let count = numbers::read(text, &mut numbers);
+    writing::write(
+        rule,
+        VESSELS as u32,
+        b"A\0\0\0\0\0\0\0B\0\0\0\0\0\0\0C\0\0\0\0\0\0\0",
+        &numbers[0..count],
+        sheet,
+    );
+    HEADER_SIZE + NAME_SIZE * VESSELS + ENTRY_SIZE * (count / GIVEN_SIZE)
+}
+
+// Lists movements between three vessels, and prints the listing. What is known of it is its length.
 fn show(rule: u32, text: &[u8]) -> usize
     ensures { λ r. ⌜ r ≡ length (vectorListing rule (now (text .entry))) ⌝ }
 {
-    let mut numbers = [0u32; GIVEN_SIZE * MOVEMENTS];
     let mut sheet = [0u8; SHEET];
     let mut table = [0u32; 4 * MOVEMENTS];
     let mut out = [0u8; listing::ROOM];
-    let count = numbers::read(text, &mut numbers);
-    let size = HEADER_SIZE + NAME_SIZE * VESSELS + ENTRY_SIZE * (count / GIVEN_SIZE);
-    writing::write(rule, VESSELS as u32, b"A\0\0\0\0\0\0\0B\0\0\0\0\0\0\0C\0\0\0\0\0\0\0", &numbers[0..count], &mut sheet);
+    let size = write_vector(rule, text, &mut sheet);
     let n = listing::list_sheet(&sheet[0..size], &mut table, &mut out);
-    io::write_all(STDOUT_FILENO, &out[..n]);
+    io::write_all(STDOUT_FILENO, &out[0..n]);
     n
 }
 
@@ -73,7 +86,14 @@ fn show_calls(text: &[u8]) -> usize
     let mut answers = [UNWRITTEN; CALLS];
     let mut room = [UNWRITTEN; VESSELS * VESSELS];
     let count = numbers::read(text, &mut calls);
-    journal::carry_out(RULE, VESSELS as u32, &mut table, &calls[0..count], &mut answers, &mut room);
+    journal::carry_out(
+        RULE,
+        VESSELS as u32,
+        &mut table,
+        &calls[0..count],
+        &mut answers,
+        &mut room,
+    );
     show_numbers(&answers) + show_numbers(&room)
 }
 
@@ -82,7 +102,10 @@ fn main() {
     show(0, b"1 2 1 3, 2 0 3 5, 0 1 4 3, 1 2 5 7, 2 1 7 2, 2 0 8 1"); // K2
     show(1, b"1 2 1 3, 2 0 3 5, 0 1 4 3, 1 2 5 7, 2 1 7 2, 2 0 8 1"); // K3
     show(3, b"1 2 1 3, 2 0 3 5, 0 1 4 3, 1 2 5 7, 2 1 7 2, 2 0 8 1"); // K4
-    show(2, b"1 2 1 3, 2 0 3 5, 0 1 4 3, 1 2 5 7, 2 1 7 2, 2 0 8 1, 0 1 8 1, 0 1 7 1"); // K7
+    show(
+        2,
+        b"1 2 1 3, 2 0 3 5, 0 1 4 3, 1 2 5 7, 2 1 7 2, 2 0 8 1, 0 1 8 1, 0 1 7 1",
+    ); // K7
     show(0, b"0 1 1 2, 0 1 2 3, 1 2 3 5"); // K8
     show(1, b"0 1 1 2, 0 1 2 3, 1 2 3 5"); // K8
     show(2, b"0 1 1 2, 0 1 2 3, 1 2 3 5"); // K8
@@ -95,5 +118,7 @@ fn main() {
     show(3, b"0 1 1 1, 2 1 1 3, 1 0 1 2"); // rule 3: on a tie the later received
     show(0, b"1 0 0 3, 1 0 0 2"); // pieces never merge
     // the six movements, two refused, a span back, a vessel that is none, and the whole report
-    show_calls(b"0 1 2 1 3, 0 2 0 3 5, 0 0 1 4 3, 0 1 2 5 7, 0 2 1 7 2, 0 2 0 8 1, 0 2 2 8 1, 0 2 0 7 1, 2 1 9 8 0, 1 3 0 0 0, 3 0 0 0 0");
+    show_calls(
+        b"0 1 2 1 3, 0 2 0 3 5, 0 0 1 4 3, 0 1 2 5 7, 0 2 1 7 2, 0 2 0 8 1, 0 2 2 8 1, 0 2 0 7 1, 2 1 9 8 0, 1 3 0 0 0, 3 0 0 0 0",
+    );
 }
