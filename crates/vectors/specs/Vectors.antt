@@ -1,4 +1,4 @@
--- What a vector prints: its movements written as a sheet of three vessels, run on a table with a place for each, and listed.
+-- What a vector prints: its movements written as a sheet of three vessels, run on a table of six places, and listed.
 -- Definitions only. Assumes nothing.
 use mathlib.Core.List.{List, [], _∷_}
 use mathlib.Core.Path.{_≡_}
@@ -17,15 +17,16 @@ vessels = 3
 abbrev pub names : List ℕ
 names = 65 ∷ 0 ∷ 0 ∷ 0 ∷ 0 ∷ 0 ∷ 0 ∷ 0 ∷ 66 ∷ 0 ∷ 0 ∷ 0 ∷ 0 ∷ 0 ∷ 0 ∷ 0 ∷ 67 ∷ 0 ∷ 0 ∷ 0 ∷ 0 ∷ 0 ∷ 0 ∷ 0 ∷ []
 
--- A vector has no more movements than this, and its table as many places.
+-- A vector has no more movements than this.
 abbrev pub mostShown : ℕ
 mostShown = 16
 
 abbrev pub numbersRoom : ℕ
 numbersRoom = givenSize * mostShown
 
+-- the numbers of a table of six places
 abbrev pub tableRoom : ℕ
-tableRoom = 4 * mostShown
+tableRoom = 24
 
 -- the numbers of a vector, as many as there is room for
 abbrev pub vectorNumbers : List ℕ → List ℕ

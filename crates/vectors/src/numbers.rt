@@ -1,9 +1,10 @@
-// Decimal numbers from a text.
+// Decimal numbers, read from a text and printed.
 ghost use mathlib.Core.Path.{_≡_};
 ghost use Prim.Native.Nat.{min};
 ghost use lib.ListN.{length, set};
 ghost use lib.Seq.{sets};
 ghost use Rattle.vectors.specs.Numbers.{withByte, numbersIn};
+use libc::STDOUT_FILENO;
 use refusal::TOP;
 
 // n with a byte behind it.
@@ -57,4 +58,25 @@ pub fn read(text: &[u8], out: &mut [u32]) -> usize
         return at + 1;
     }
     room
+}
+
+// Prints a number and a space behind it, and says how many numbers that were.
+fn print_number(n: u32) -> usize
+    ensures { λ r. ⌜ r ≡ 1 ⌝ }
+{
+    io::print_decimal(STDOUT_FILENO, n as u64);
+    io::write_all(STDOUT_FILENO, b" ");
+    1
+}
+
+// Prints numbers on a line, and says how many.
+pub fn print_line(numbers: &[u32]) -> usize
+    ensures { λ r. ⌜ r ≡ length (now (numbers .entry)) ⌝ }
+{
+    let mut i: usize = 0;
+    while i < numbers.len() {
+        i += print_number(numbers[i]);
+    }
+    io::write_all(STDOUT_FILENO, b"\n");
+    i
 }

@@ -14,9 +14,6 @@ read-requires c κs = search needs
 cast-write : tie.Need-cast-write
 cast-write c = search needs
 
-slice-aggregate-write : tie.Need-slice-aggregate-write
-slice-aggregate-write c = search needs
-
 sub-write : tie.Need-sub-write
 sub-write c = search needs
 
@@ -54,7 +51,6 @@ write-vector-spec =
     slice-aggregate-read
     read-requires
     cast-write
-    slice-aggregate-write
     sub-write
     part-write-start
     part-write-end
