@@ -21,19 +21,22 @@ names = 65 ∷ 0 ∷ 0 ∷ 0 ∷ 0 ∷ 0 ∷ 0 ∷ 0 ∷ 66 ∷ 0 ∷ 0 ∷ 0 �
 abbrev pub mostShown : ℕ
 mostShown = 16
 
+abbrev pub sheetRoom : ℕ
+sheetRoom = sheetSize vessels mostShown
+
 abbrev pub numbersRoom : ℕ
 numbersRoom = givenSize * mostShown
 
--- the numbers of a table of six places
+-- "Places = table length divided by 4"
+abbrev pub places : ℕ
+places = 6
+
 abbrev pub tableRoom : ℕ
-tableRoom = 24
+tableRoom = 4 * places
 
 -- the numbers of a vector, as many as there is room for
 abbrev pub vectorNumbers : List ℕ → List ℕ
 vectorNumbers text = take numbersRoom (numbersIn text)
-
-abbrev pub sheetRoom : ℕ
-sheetRoom = sheetSize vessels mostShown
 
 -- the bytes of a vector's sheet
 abbrev pub vectorSize : List ℕ → ℕ
@@ -43,6 +46,7 @@ vectorSize text = sheetSize vessels (countGiven (vectorNumbers text))
 abbrev pub vectorOn : ℕ → List ℕ → List ℕ → List ℕ
 vectorOn rule text bytes = written rule vessels names (vectorNumbers text) bytes
 
+-- A vector's sheet was written: its size, for which there is room, and the bytes after.
 pub record VectorWritten (rule : ℕ) (text before : List ℕ) (size : ℕ) (after : List ℕ) : Type 0 where
   pub size-is : size ≡ vectorSize text
   pub room : size ≤ sheetRoom

@@ -18,7 +18,9 @@ const MOVEMENTS: usize = 16; // of a vector at most
 
 const SHEET: usize = HEADER_SIZE + NAME_SIZE * VESSELS + ENTRY_SIZE * MOVEMENTS;
 
-const TABLE: usize = 24; // four numbers for each of six places
+const PLACES: usize = 6;
+
+const TABLE: usize = 4 * PLACES; // four numbers for a place
 
 const CALLS: usize = 12; // of a list at most
 

@@ -1,22 +1,30 @@
 // Decimal numbers, read from a text and printed.
 ghost use mathlib.Core.Path.{_≡_};
-ghost use Prim.Native.Nat.{min};
+ghost use Prim.Native.Nat.{_≤_, min};
 ghost use lib.ListN.{length, set};
 ghost use lib.Seq.{sets};
-ghost use Rattle.vectors.specs.Numbers.{withByte, numbersIn};
+ghost use Rattle.vectors.specs.Numbers.{zeroDigit, digitAt, withDigit, numbersIn};
 use libc::STDOUT_FILENO;
 use refusal::TOP;
 
-// n with a byte behind it.
-fn with_byte(n: u32, byte: u8) -> u32
-    ensures { λ r. ⌜ r ≡ withByte n byte ⌝ }
+// Whether a digit stands at an index.
+fn digit_at(text: &[u8], i: usize) -> bool
+    ensures { λ r. ⌜ r ≡ digitAt (now (text .entry)) i ⌝ }
 {
-    if byte < b'0' {
-        return n;
+    if text.len() <= i {
+        return false;
     }
-    if b'9' < byte {
-        return n;
+    if text[i] < b'0' {
+        return false;
     }
+    text[i] <= b'9'
+}
+
+// n with a digit behind it.
+fn with_digit(n: u32, byte: u8) -> u32
+    requires { ⌜ zeroDigit ≤ byte ⌝ }
+    ensures { λ r. ⌜ r ≡ withDigit n byte ⌝ }
+{
     let more = 10 * (n as u64) + ((byte - b'0') as u64);
     if more < TOP as u64 {
         return more as u32;
@@ -43,19 +51,21 @@ pub fn read(text: &[u8], out: &mut [u32]) -> usize
     let mut n: u32 = 0;
     let mut i: usize = 0;
     while i < text.len() {
-        let byte = text[i];
+        if !digit_at(text, i) {
+            i += 1;
+            continue;
+        }
+        n = with_digit(n, text[i]);
         i += 1;
-        if byte != b' ' {
-            n = with_byte(n, byte);
+        if digit_at(text, i) {
             continue;
         }
         put(out, at, n);
         at += 1;
         n = 0;
     }
-    put(out, at, n);
     if at < room {
-        return at + 1;
+        return at;
     }
     room
 }
