@@ -1,10 +1,10 @@
--- `show_numbers` meets its contract. The invariant: at most all numbers are printed; the measure is how many are left.
+-- `numbers::print_line` meets its contract. The invariant: at most all numbers are printed; the measure is how many are left.
 -- Assumes nothing.
 use borrow.Author.Needs.{needs}
 use Prim.Native.Nat.{_-_, _≤_}
 use lib.ListN.{length}
-use Rattle.vectors.proofs.show_numbers.Statement.{statement}
-use Rattle.vectors.proofs.show_numbers.Tie as tie
+use Rattle.vectors.proofs.numbers.print_line.Statement.{statement}
+use Rattle.vectors.proofs.numbers.print_line.Tie as tie
 
 abbrev Inv-loop : tie.InvT-loop
 Inv-loop numbers i₀ t3 i = i ≤ length numbers
@@ -15,14 +15,14 @@ abbrev μ-loop : tie.MeasureT-loop
 loop-holds : tie.Need-loop-holds Inv-loop μ-loop
 loop-holds c = search needs
 
-mul-show-number : tie.Need-mul-show-number Inv-loop μ-loop
-mul-show-number c = search needs
+mul-print-number : tie.Need-mul-print-number Inv-loop μ-loop
+mul-print-number c = search needs
 
-shared-slice-read-show-number : tie.Need-shared-slice-read-show-number Inv-loop μ-loop
-shared-slice-read-show-number c = search needs
+shared-slice-read-print-number : tie.Need-shared-slice-read-print-number Inv-loop μ-loop
+shared-slice-read-print-number c = search needs
 
-show-number-requires : tie.Need-show-number-requires Inv-loop μ-loop
-show-number-requires c κs = search needs
+print-number-requires : tie.Need-print-number-requires Inv-loop μ-loop
+print-number-requires c κs = search needs
 
 add-i : tie.Need-add-i Inv-loop μ-loop
 add-i c = search needs
@@ -42,16 +42,16 @@ write-all-requires c κs = search needs
 returns : tie.Need-returns Inv-loop μ-loop
 returns c = search needs
 
-pub show-numbers-spec : {M : Type 1} → statement M
-show-numbers-spec =
+pub print-line-spec : {M : Type 1} → statement M
+print-line-spec =
     tie.close
     (tie.spec
     Inv-loop
     μ-loop
     loop-holds
-    mul-show-number
-    shared-slice-read-show-number
-    show-number-requires
+    mul-print-number
+    shared-slice-read-print-number
+    print-number-requires
     add-i
     loop-less
     loop-again
