@@ -11,7 +11,7 @@ use book::Transfer;
 use book::opening;
 
 // A call is five numbers: its kind and its arguments.
-const CALL_SIZE: usize = 5;
+pub const CALL_SIZE: usize = 5;
 
 const TRANSFER: u32 = 0;
 

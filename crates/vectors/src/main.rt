@@ -8,6 +8,7 @@ use fields::layout::ENTRY_SIZE;
 use fields::layout::GIVEN_SIZE;
 use fields::layout::HEADER_SIZE;
 use fields::layout::NAME_SIZE;
+use journal::CALL_SIZE;
 use libc::STDOUT_FILENO;
 
 mod numbers; // numbers.rt: decimal numbers, read from a text and printed
@@ -23,8 +24,6 @@ const PLACES: usize = 6;
 const TABLE: usize = 4 * PLACES; // four numbers for a place
 
 const CALLS: usize = 12; // of a list at most
-
-const CALL_SIZE: usize = 5; // numbers of a call
 
 const UNWRITTEN: u32 = 99; // shows where nothing is written
 
