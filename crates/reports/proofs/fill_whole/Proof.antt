@@ -3,7 +3,7 @@
 -- Assumes nothing.
 use borrow.Author.Needs.{needs}
 use Prim.Native.Nat.{_+_, _*_, _-_, _≤_}
-use mathlib.Core.Path.{_≡_, refl}
+use mathlib.Core.Path.{_≡_, refl, _∙_}
 use mathlib.Core.List.{_++_}
 use lib.ListN.{length, drop}
 use Rattle.table.specs.Table.{piecesOf}
