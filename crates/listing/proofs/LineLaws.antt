@@ -15,7 +15,8 @@ use Rattle.table.proofs.Table.{length-pieces}
 use Rattle.fields.proofs.PutLaws.{put-then}
 use Rattle.run.specs.declared.Ran.{Ran}
 use Rattle.fields.proofs.CheckLaws.{not-zero}
-use Rattle.listing.specs.Listing.{Put, Listed, pieceLine, pieceLines, stoppedLine, lastLine, refusedLine, bookText, listingText, lastSize, refusedSize, roomFor}
+use Rattle.text.specs.Text.{Put}
+use Rattle.listing.specs.Listing.{Listed, pieceLine, pieceLines, stoppedLine, lastLine, refusedLine, bookText, listingText, lastSize, refusedSize, roomFor}
 
 module _ (t : List ℕ) (n i : ℕ) where
   -- the lines of the pieces from place i on

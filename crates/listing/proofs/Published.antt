@@ -20,7 +20,7 @@ use Rattle.names.specs.Names.{letters, wellFormed}
 use Rattle.sheet.specs.Sheet.{layoutOff, noSheet, readNumber}
 use Rattle.writing.specs.Writing.{sheetOf}
 use Rattle.run.specs.Run.{runFrom, runNumber, running}
-use Rattle.listing.specs.Digits.{digits, decimal}
+use Rattle.text.specs.Digits.{digits, decimal}
 use Rattle.listing.specs.Listing.{firstLine, pieceLine, pieceLines, stoppedLine, refusedLine, bookText, listingText, sheetListing}
 
 abbrev piece : ℕ → ℕ → ℕ → ℕ → Piece

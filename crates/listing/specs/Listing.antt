@@ -5,19 +5,15 @@ use mathlib.Core.List.{List, [], _∷_, _++_}
 use mathlib.Core.Path.{_≡_}
 use Prim.Native.Nat.{ℕ, _+_, _*_, _≤_}
 use lib.ListN.{length, drop}
-use lib.Seq.{sets}
 use Rattle.refusal.specs.Numbers.{ifZero}
 use Rattle.table.specs.declared.Piece.{Piece}
 use Rattle.table.specs.Table.{mostPlaces, piecesOf}
 use Rattle.book.specs.declared.Head.{Head}
 use Rattle.run.specs.declared.Ran.{Ran}
 use Rattle.run.specs.Run.{running}
-use Rattle.listing.specs.Digits.{decimal}
+use Rattle.text.specs.Digits.{decimal}
+use Rattle.text.specs.Text.{word}
 use Rattle.listing.specs.Words.{vesselsWord, ruleWord, acceptedWord, piecesWord, evenWord, stoppedWord, atWord, refusedWord, space, newline}
-
--- a word and the number behind it
-abbrev pub word : List ℕ → ℕ → List ℕ
-word text n = text ++ decimal n
 
 -- "vessels V rule R accepted A pieces P even E"
 unfoldable pub firstLine : Head → ℕ → List ℕ
@@ -80,11 +76,6 @@ roomFor n = firstSize + lastSize + pieceSize * n
 
 abbrev pub listingRoom : ℕ
 listingRoom = roomFor mostPlaces
-
--- A text put into bytes at an index: the index behind it, and the bytes after.
-pub record Put (before : List ℕ) (at : ℕ) (text : List ℕ) (next : ℕ) (after : List ℕ) : Type 0 where
-  pub next-is : next ≡ at + length text
-  pub after-is : after ≡ sets before at text
 
 -- A text at the start of bytes: its length, which they have room for, and the bytes after. Those behind the text remain.
 pub record Listed (before text : List ℕ) (count : ℕ) (after : List ℕ) : Type 0 where

@@ -2,8 +2,9 @@
 ghost use Prim.Native.Nat.{_+_, _*_, _≤_};
 ghost use lib.ListN.{length};
 ghost use Rattle.table.specs.Table.{piecesOf};
+ghost use Rattle.text.specs.Text.{Put};
 ghost use Rattle.listing.specs.Listing.{firstLine, pieceLine, pieceLines, stoppedLine, refusedLine, lastLine, bookText, listingOf};
-ghost use Rattle.listing.specs.Listing.{Put, Listed, ListsSheet, firstSize, pieceSize, lastSize, refusedSize, roomFor, listingRoom};
+ghost use Rattle.listing.specs.Listing.{Listed, ListsSheet, firstSize, pieceSize, lastSize, refusedSize, roomFor, listingRoom};
 use book::Head;
 use run::Ran;
 use table::Piece;
@@ -20,8 +21,6 @@ const LAST: usize = 33;
 
 // Bytes that are room for every listing of a table.
 pub const ROOM: usize = FIRST + LAST + PIECE * table::PLACES;
-
-mod text; // text.rt: a text, a number and a word put into bytes
 
 // The first line.
 fn put_first(out: &mut [u8], head: Head, even: u32) -> usize

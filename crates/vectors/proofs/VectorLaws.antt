@@ -10,9 +10,9 @@ use Rattle.fields.specs.Layout.{sheetSize}
 use Rattle.fields.specs.Movements.{givenSize}
 use Rattle.writing.specs.Writing.{written}
 use Rattle.listing.specs.Listing.{sheetListing}
-use Rattle.vectors.specs.Numbers.{numbersIn}
+use Rattle.text.specs.Numbers.{numbersIn}
 use Rattle.vectors.specs.Vectors.{vessels, names, numbersRoom, tableRoom, sheetRoom, vectorNumbers, VectorWritten, vectorListing}
-use Rattle.vectors.proofs.NumberLaws.{first-put}
+use Rattle.text.proofs.NumberLaws.{first-put}
 
 -- what is written of the numbers that were read
 pub vector-written : (rule : ℕ) (text numbers before after : List ℕ) (count : ℕ) → count ≡ min (length (numbersIn text)) numbersRoom

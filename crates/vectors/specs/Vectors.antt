@@ -8,7 +8,7 @@ use Rattle.fields.specs.Layout.{sheetSize}
 use Rattle.fields.specs.Movements.{givenSize}
 use Rattle.writing.specs.Writing.{countGiven, written}
 use Rattle.listing.specs.Listing.{sheetListing}
-use Rattle.vectors.specs.Numbers.{numbersIn}
+use Rattle.text.specs.Numbers.{numbersIn}
 
 abbrev pub vessels : ℕ
 vessels = 3

@@ -11,8 +11,6 @@ use fields::layout::NAME_SIZE;
 use journal::CALL_SIZE;
 use libc::STDOUT_FILENO;
 
-mod numbers; // numbers.rt: decimal numbers, read from a text and printed
-
 const VESSELS: usize = 3; // A, B, C
 
 const MOVEMENTS: usize = 16; // of a vector at most
@@ -32,7 +30,7 @@ fn write_vector(rule: u32, text: &[u8], sheet: &mut [u8]) -> usize
     ensures { λ r. ⌜ VectorWritten rule (now (text .entry)) (now (sheet .entry)) r (now (sheet .exit)) ⌝ }
 {
     let mut numbers = [0u32; GIVEN_SIZE * MOVEMENTS];
-    let count = numbers::read(text, &mut numbers);
+    let count = text::parsing::read(text, &mut numbers);
     let names = b"A\0\0\0\0\0\0\0B\0\0\0\0\0\0\0C\0\0\0\0\0\0\0";
     writing::write(rule, VESSELS as u32, names, &numbers[0..count], sheet);
     HEADER_SIZE + NAME_SIZE * VESSELS + ENTRY_SIZE * (count / GIVEN_SIZE)
@@ -51,6 +49,27 @@ fn show(rule: u32, text: &[u8]) -> usize
     n
 }
 
+// Prints a number and a space behind it, and says how many numbers that were.
+fn print_number(n: u32) -> usize
+    ensures { λ r. ⌜ r ≡ 1 ⌝ }
+{
+    io::print_decimal(STDOUT_FILENO, n as u64);
+    io::write_all(STDOUT_FILENO, b" ");
+    1
+}
+
+// Prints numbers on a line, and says how many.
+fn print_line(numbers: &[u32]) -> usize
+    ensures { λ r. ⌜ r ≡ length (now (numbers .entry)) ⌝ }
+{
+    let mut i: usize = 0;
+    while i < numbers.len() {
+        i += print_number(numbers[i]);
+    }
+    io::write_all(STDOUT_FILENO, b"\n");
+    i
+}
+
 // Carries out a list of calls on a fresh book of three vessels, and prints the number of each and the room after. Demand 3 is in the
 // contract of `carry_out`.
 fn show_calls(rule: u32, text: &[u8]) -> usize
@@ -60,7 +79,7 @@ fn show_calls(rule: u32, text: &[u8]) -> usize
     let mut table = [0u32; TABLE];
     let mut answers = [UNWRITTEN; CALLS];
     let mut room = [UNWRITTEN; VESSELS * VESSELS];
-    let count = numbers::read(text, &mut calls);
+    let count = text::parsing::read(text, &mut calls);
     journal::carry_out(
         rule,
         VESSELS as u32,
@@ -69,7 +88,7 @@ fn show_calls(rule: u32, text: &[u8]) -> usize
         &mut answers,
         &mut room,
     );
-    numbers::print_line(&answers) + numbers::print_line(&room)
+    print_line(&answers) + print_line(&room)
 }
 
 fn main() {

@@ -1,6 +1,6 @@
 -- The first line, the lines of the pieces and the last line, put one behind the other, are the text.
 -- Assumes nothing.
-use Rattle.listing.proofs.TextLaws.{then}
+use Rattle.text.proofs.TextLaws.{then}
 use native.Mathlib.Omega.{arith}
 use Rattle.listing.specs.Listing.{bookText}
 use borrow.Author.Needs.{needs}

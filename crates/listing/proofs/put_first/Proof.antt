@@ -1,7 +1,7 @@
 -- Five words and the newline, put one behind the other, are the first line.
 -- Assumes nothing.
 use native.Mathlib.Omega.{arith}
-use Rattle.listing.proofs.TextLaws.{then}
+use Rattle.text.proofs.TextLaws.{then}
 use Rattle.listing.specs.Listing.{firstLine}
 use borrow.Author.Needs.{needs}
 use Rattle.listing.proofs.put_first.Statement.{statement}

@@ -1,7 +1,7 @@
 -- Four numbers with spaces between them and the newline, put one behind the other, are the line of a piece.
 -- Assumes nothing.
 use native.Mathlib.Omega.{arith}
-use Rattle.listing.proofs.TextLaws.{then}
+use Rattle.text.proofs.TextLaws.{then}
 use Rattle.listing.specs.Listing.{pieceLine}
 use borrow.Author.Needs.{needs}
 use Rattle.listing.proofs.put_piece.Statement.{statement}

@@ -1,7 +1,7 @@
 -- A word and the newline, put one behind the other, are the line.
 -- Assumes nothing.
 use native.Mathlib.Omega.{arith}
-use Rattle.listing.proofs.TextLaws.{then}
+use Rattle.text.proofs.TextLaws.{then}
 use Rattle.listing.specs.Listing.{refusedLine}
 use borrow.Author.Needs.{needs}
 use Rattle.listing.proofs.put_refused.Statement.{statement}

@@ -3,9 +3,9 @@
 use borrow.Author.Needs.{needs}
 use Prim.Native.Nat.{_-_}
 use lib.ListN.{length}
-use Rattle.vectors.proofs.NumberLaws.{Reading, digit-low, other-turn, digit-turn, last-turn, all-put, with-room, filled}
-use Rattle.vectors.proofs.numbers.read.Statement.{statement}
-use Rattle.vectors.proofs.numbers.read.Tie as tie
+use Rattle.text.proofs.NumberLaws.{Reading, digit-low, other-turn, digit-turn, last-turn, all-put, with-room, filled}
+use Rattle.text.proofs.parsing.read.Statement.{statement}
+use Rattle.text.proofs.parsing.read.Tie as tie
 
 abbrev Inv-loop : tie.InvT-loop
 Inv-loop text out₀ room at₀ n₀ i₀ out at n i = Reading text out₀ out at n i

@@ -6,8 +6,8 @@ use mathlib.Core.Path.{_≡_, refl, _∙_}
 use mathlib.Core.List.{List, [], _∷_, _++_, append-assoc}
 use lib.ListN.{getD}
 use Rattle.refusal.specs.Numbers.{TOP}
-use Rattle.listing.specs.Digits.{lastDigit, digits, decimal}
-use Rattle.listing.proofs.TextLaws.{no-digits, more-digits}
+use Rattle.text.specs.Digits.{lastDigit, digits, decimal}
+use Rattle.text.proofs.TextLaws.{no-digits, more-digits}
 
 -- the number that digits say, behind those read before
 abbrev valueOn : ℕ → List ℕ → ℕ

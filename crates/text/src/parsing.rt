@@ -1,10 +1,9 @@
-// Decimal numbers, read from a text and printed.
+// Decimal numbers read from a text.
 ghost use mathlib.Core.Path.{_≡_};
 ghost use Prim.Native.Nat.{_≤_, min};
 ghost use lib.ListN.{length, set};
 ghost use lib.Seq.{sets};
-ghost use Rattle.vectors.specs.Numbers.{zeroDigit, digitAt, withDigit, numbersIn};
-use libc::STDOUT_FILENO;
+ghost use Rattle.text.specs.Numbers.{zeroDigit, digitAt, withDigit, numbersIn};
 use refusal::TOP;
 
 // Whether a digit stands at an index.
@@ -68,25 +67,4 @@ pub fn read(text: &[u8], out: &mut [u32]) -> usize
         return at;
     }
     room
-}
-
-// Prints a number and a space behind it, and says how many numbers that were.
-fn print_number(n: u32) -> usize
-    ensures { λ r. ⌜ r ≡ 1 ⌝ }
-{
-    io::print_decimal(STDOUT_FILENO, n as u64);
-    io::write_all(STDOUT_FILENO, b" ");
-    1
-}
-
-// Prints numbers on a line, and says how many.
-pub fn print_line(numbers: &[u32]) -> usize
-    ensures { λ r. ⌜ r ≡ length (now (numbers .entry)) ⌝ }
-{
-    let mut i: usize = 0;
-    while i < numbers.len() {
-        i += print_number(numbers[i]);
-    }
-    io::write_all(STDOUT_FILENO, b"\n");
-    i
 }

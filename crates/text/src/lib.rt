@@ -1,9 +1,11 @@
-// Texts and numbers put into bytes. Each function yields the index behind what it put.
+// Texts and decimal numbers put into bytes, where each function yields the index behind what it put; and read from them.
 ghost use mathlib.Core.Path.{_≡_};
 ghost use Prim.Native.Nat.{_+_, _<_, _≤_};
 ghost use lib.ListN.{length, drop};
-ghost use Rattle.listing.specs.Digits.{mostDigits, decimal, lastDigit};
-ghost use Rattle.listing.specs.Listing.{Put, word};
+ghost use Rattle.text.specs.Digits.{mostDigits, decimal, lastDigit};
+ghost use Rattle.text.specs.Text.{Put, word};
+
+pub mod parsing; // parsing.rt: the numbers of a text
 
 const DIGITS: usize = 10; // of a number of 32 bits at most
 

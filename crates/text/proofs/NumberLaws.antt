@@ -11,7 +11,7 @@ use borrow.Author.Tests.{leb-true, not-true, not-false}
 use lib.Dec.{leb}
 use lib.ListN.{length, getD, List·getD-eq-default, take, drop, set, drop-of-length-le, length-set}
 use lib.Seq.{sets, drop-cons, take-nil, getD-drop}
-use Rattle.vectors.specs.Numbers.{zeroDigit, nineDigit, digitAt, withDigit, numbersFrom, numbersIn}
+use Rattle.text.specs.Numbers.{zeroDigit, nineDigit, digitAt, withDigit, numbersFrom, numbersIn}
 
 -- behind the end there is no digit
 pub none-behind : (text : List ℕ) (i : ℕ) → length text ≤ i → false ≡ digitAt text i

@@ -1,9 +1,9 @@
 -- The digits lie at the end of ten bytes, and the text from their start on is the number.
 -- Assumes nothing.
-use Rattle.listing.proofs.TextLaws.{number-put}
+use Rattle.text.proofs.TextLaws.{number-put}
 use borrow.Author.Needs.{needs}
-use Rattle.listing.proofs.text.put_number.Statement.{statement}
-use Rattle.listing.proofs.text.put_number.Tie as tie
+use Rattle.text.proofs.put_number.Statement.{statement}
+use Rattle.text.proofs.put_number.Tie as tie
 
 slice-aggregate-spell : tie.Need-slice-aggregate-spell
 slice-aggregate-spell c = search needs

@@ -2,9 +2,9 @@
 -- Assumes nothing.
 use borrow.Author.Needs.{needs}
 use Rattle.table.proofs.Tests.{tests}
-use Rattle.vectors.proofs.NumberLaws.{none-behind}
-use Rattle.vectors.proofs.numbers.digit_at.Statement.{statement}
-use Rattle.vectors.proofs.numbers.digit_at.Tie as tie
+use Rattle.text.proofs.NumberLaws.{none-behind}
+use Rattle.text.proofs.parsing.digit_at.Statement.{statement}
+use Rattle.text.proofs.parsing.digit_at.Tie as tie
 
 returns : tie.Need-returns
 returns c = search (needs, none-behind)

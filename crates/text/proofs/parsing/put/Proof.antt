@@ -2,8 +2,8 @@
 use borrow.Author.Needs.{needs}
 use mathlib.Core.Path.{sym}
 use lib.Seq.{set-out}
-use Rattle.vectors.proofs.numbers.put.Statement.{statement}
-use Rattle.vectors.proofs.numbers.put.Tie as tie
+use Rattle.text.proofs.parsing.put.Statement.{statement}
+use Rattle.text.proofs.parsing.put.Tie as tie
 
 mul-out : tie.Need-mul-out
 mul-out c = search needs

@@ -3,8 +3,8 @@
 use borrow.Author.Needs.{needs}
 use Prim.Native.Nat.{_-_, _≤_}
 use lib.ListN.{length}
-use Rattle.vectors.proofs.numbers.print_line.Statement.{statement}
-use Rattle.vectors.proofs.numbers.print_line.Tie as tie
+use Rattle.vectors.proofs.print_line.Statement.{statement}
+use Rattle.vectors.proofs.print_line.Tie as tie
 
 abbrev Inv-loop : tie.InvT-loop
 Inv-loop numbers i₀ t3 i = i ≤ length numbers

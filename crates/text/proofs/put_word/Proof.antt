@@ -1,9 +1,9 @@
 -- A text and a number put one behind the other are the word.
 -- Assumes nothing.
-use Rattle.listing.proofs.TextLaws.{word-put}
+use Rattle.text.proofs.TextLaws.{word-put}
 use borrow.Author.Needs.{needs}
-use Rattle.listing.proofs.text.put_word.Statement.{statement}
-use Rattle.listing.proofs.text.put_word.Tie as tie
+use Rattle.text.proofs.put_word.Statement.{statement}
+use Rattle.text.proofs.put_word.Tie as tie
 
 put-text-requires : tie.Need-put-text-requires
 put-text-requires c κs = search needs

@@ -5,10 +5,10 @@ use Prim.Native.Nat.{_^_, _<_}
 use mathlib.Core.Path.{_≡_}
 use mathlib.Core.List.{_++_}
 use lib.ListN.{length, drop}
-use Rattle.listing.specs.Digits.{digits, decimal}
-use Rattle.listing.proofs.TextLaws.{some-room, spell-start, spell-turn, power-turn, spell-end}
-use Rattle.listing.proofs.text.spell.Statement.{statement}
-use Rattle.listing.proofs.text.spell.Tie as tie
+use Rattle.text.specs.Digits.{digits, decimal}
+use Rattle.text.proofs.TextLaws.{some-room, spell-start, spell-turn, power-turn, spell-end}
+use Rattle.text.proofs.spell.Statement.{statement}
+use Rattle.text.proofs.spell.Tie as tie
 
 abbrev Inv-loop : tie.InvT-loop
 Inv-loop n text₀ i₀ left₀ text i left = (i < 10) × (length text ≡ 10) × (left < 10 ^ i) × (digits i left ++ drop i text ≡ decimal n)

@@ -8,8 +8,8 @@ use mathlib.Core.List.{List, [], _∷_, _++_, append-assoc}
 use lib.ListN.{length, take, drop, set, length-append, length-drop, length-set, drop-of-length-le}
 use lib.Seq.{take-all, drop-cons, drop-set-lt, getD-set-same}
 use Rattle.fields.proofs.PutLaws.{put-then}
-use Rattle.listing.specs.Digits.{lastDigit, digits, decimal}
-use Rattle.listing.specs.Listing.{Put}
+use Rattle.text.specs.Digits.{lastDigit, digits, decimal}
+use Rattle.text.specs.Text.{Put}
 
 -- two texts put one behind the other are one
 pub then : {l l₁ l₂ a b : List ℕ} {at i j : ℕ} → Put l at a i l₁ → Put l₁ i b j l₂ → Put l at (a ++ b) j l₂

@@ -1,0 +1,4 @@
+-- Laws that belong to no one function.
+pub mod TextLaws
+pub mod Decimal
+pub mod NumberLaws
