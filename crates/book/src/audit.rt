@@ -3,10 +3,11 @@ ghost use mathlib.Core.Path.{_≡_};
 ghost use Prim.Native.Nat.{_≤_, _*_};
 ghost use lib.ListN.{length};
 ghost use Rattle.table.specs.Table.{piecesOf};
-ghost use Rattle.book.specs.Head.{addsUp, fits, Sized};
+ghost use Rattle.book.specs.Head.{mostVessels, addsUp, fits, Sized};
 ghost use Rattle.refusal.specs.Numbers.{first};
 ghost use Rattle.book.specs.Memory.{bookChecks};
 ghost use Rattle.book.specs.Audit.{covers, allZero, drained};
+use super::BALANCES;
 use super::Head;
 use super::opening;
 use table::Piece;
@@ -32,7 +33,7 @@ fn fits_in(p: Piece, vessels: u32, last: u32) -> bool
 
 // Whether the piece fits, and what is left of its holder's balance covers it.
 fn is_covered(p: Piece, vessels: u32, last: u32, rest: &[u32]) -> bool
-    requires { ⌜ (vessels ≤ 64) × (length (now rest) ≡ 64) ⌝ }
+    requires { ⌜ (vessels ≤ mostVessels) × (length (now rest) ≡ mostVessels) ⌝ }
     ensures { λ r. ⌜ r ≡ covers vessels last (now (rest .entry)) p ⌝ }
 {
     if fits_in(p, vessels, last) {
@@ -56,8 +57,8 @@ fn all_zero(rest: &[u32]) -> bool
 }
 
 // Whether the n pieces draw the balances down to nothing.
-fn drains(table: &[u32], n: usize, vessels: u32, last: u32, balances: [u32; 64]) -> bool
-    requires { ⌜ (4 * n ≤ length (now table)) × (vessels ≤ 64) ⌝ }
+fn drains(table: &[u32], n: usize, vessels: u32, last: u32, balances: [u32; BALANCES]) -> bool
+    requires { ⌜ (4 * n ≤ length (now table)) × (vessels ≤ mostVessels) ⌝ }
     ensures { λ r. ⌜ r ≡ drained vessels last balances (piecesOf n (now (table .entry))) ⌝ }
 {
     let mut rest = balances;

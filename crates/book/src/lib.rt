@@ -3,6 +3,9 @@ pub mod audit;
 pub mod balances;
 pub mod opening;
 
+// A head holds a balance for each vessel that a book can have.
+pub const BALANCES: usize = 64;
+
 // The head of a book.
 #[repr(C)]
 pub struct Head {
@@ -11,7 +14,7 @@ pub struct Head {
     pub pieces: u32,
     pub last: u32,
     pub accepted: u32,
-    pub balances: [u32; 64],
+    pub balances: [u32; BALANCES],
 }
 
 // What opening answers.

@@ -2,14 +2,15 @@
 ghost use mathlib.Core.Path.{_≡_};
 ghost use Rattle.refusal.specs.Numbers.{first};
 ghost use Rattle.book.specs.Head.{emptyHead, notOpened, openChecks, opening};
+use super::BALANCES;
 use super::Head;
 use super::Opened;
 
 // The rules are numbered from 0 to this.
 pub const LAST_RULE: u32 = 3;
 
-// A book has at most this many vessels: the head holds a balance for each.
-pub const VESSELS: u32 = 64;
+// A book has at most this many vessels.
+pub const VESSELS: u32 = BALANCES as u32;
 
 // A head with this rule and this many vessels, and all other numbers 0.
 pub fn empty_head(rule: u32, vessels: u32) -> Head
@@ -21,7 +22,7 @@ pub fn empty_head(rule: u32, vessels: u32) -> Head
         pieces: 0,
         last: 0,
         accepted: 0,
-        balances: [0u32; 64],
+        balances: [0u32; BALANCES],
     }
 }
 
