@@ -74,13 +74,15 @@ loop-again : tie.Need-loop-again Inv-loop μ-loop
 loop-again c =
     let counted = c .before in
     let accepted = counted .before in
-    let after = accepted .before in
+    let lifted = accepted .before .before .before in
+    let spare = lifted .before .before in
+    let keys = spare .before .before in
     let made = accepted .before .before .before .before .before .before .before .before .before .before in
     let turn = made .before .before .before .before .before in
     let loop = turn .before in
     let start = loop .before .before .before .before .before .before in
     going-next _ _ _ _ _ _ _ _ _ _ _ _ _ _ (loop .loop .inv) (start .pre) _ _ (turn .loop-test .taken) (made .make .ensures) (accepted .if1 .left) _ (counted .count-even .ensures) _ _ _
-    (after .before .before .before .before .before .before .keys .given) (after .before .before .before .before .spare .given) (after .before .before .lifted .given)
+    (keys .keys .given) (spare .spare .given) (lifted .lifted .given)
 
 same-length-5 : tie.Need-same-length-5 Inv-loop μ-loop
 same-length-5 c = search needs
