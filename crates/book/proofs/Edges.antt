@@ -1,5 +1,6 @@
 -- Every test and check of a book at its edge, in one table: of each clause of "adds up" a book that only it refuses, and of each number
 -- the last that passes and the first that does not. A definition that is altered together with code and proofs fails here.
+-- (Pieces above the places show alone only past the most places: `too-many`.)
 -- Assumes nothing.
 use mathlib.Core.Path.{_≡_, refl}
 use mathlib.Core.Bool.{Bool, true, false, _&&_}
