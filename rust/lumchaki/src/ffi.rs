@@ -74,8 +74,8 @@ mod tests {
     const SHORT: u32 = Refusal::TableShort.number();
     const NO_SHEET: u32 = Refusal::NoSheet.number();
 
-    /// As the header says, null with the count 0 lends nothing. The language lets an empty slice
-    /// have a null pointer, and a proved function reads and writes only elements that a slice has.
+    /// As the header says, null with the count 0 lends nothing. A proved function reads and
+    /// writes only elements that a slice has; docs/DECISIONS.md says what else this rests on.
     #[test]
     fn null_lends_nothing_to_the_book() {
         let report_short = Refusal::ReportShort.number();
