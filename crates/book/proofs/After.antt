@@ -12,7 +12,7 @@ use Rattle.table.proofs.Pieces.{all-map}
 use Rattle.refusal.specs.Numbers.{first}
 use Rattle.book.specs.declared.Head.{Head}
 use Rattle.book.specs.Head.{Book, Sized, headOf, bookOf, emptyHead, opened, openChecks}
-use Rattle.book.specs.Calls.{Call}
+use Rattle.book.specs.Calls.{Call, meaning}
 use Rattle.book.specs.Memory.{outcome, numberOf, callOn}
 use Rattle.book.proofs.BalanceLaws.{balances-match, balance-held, fresh-head}
 use Rattle.book.proofs.Sound.{SoundBook, keeps}
@@ -39,7 +39,7 @@ module _ (h : Head) (t : List ℕ) (k : Known h t) (c : Call) where
   unfolding callOn
   length-after = go (numberOf h t c) refl
     where
-      go : (n : ℕ) → numberOf h t c ≡ n → length ((outcome h t c n) .table) ≡ length t
+      go : (n : ℕ) → numberOf h t c ≡ n → length ((outcome h t (meaning c) n) .table) ≡ length t
       go zero e =
           let e′ = sym (number-same (placesOf t) h t (bookOf h t) (k .on) (k .sound) c) ∙ e in
           keeps (placesOf t) (bookOf h t) c (k .sound) e′ .long t (k .on .lies)

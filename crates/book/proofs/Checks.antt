@@ -1,4 +1,4 @@
--- What it tells that none of a transfer's checks 5 to 10 applies.
+-- What it tells that none of a transfer's checks 5 to 10 and 21 applies.
 -- Assumes nothing.
 use mathlib.Core.Path.{_≡_}
 use mathlib.Core.Logic.{_≢_}
@@ -16,17 +16,19 @@ pub record Fit (g : Standing) (x : Transfer) : Type 0 where
   pub apart : x .source ≢ x .destination
   pub weighty : 1 ≤ x .weight
   pub forward : g .last ≤ x .minute
+  pub milled : x .age ≤ x .minute
   pub room : g .balance (x .destination) + x .weight ≤ TOP
   pub tally : g .accepted ≢ TOP
 
 by-name : (g : Standing) (x : Transfer) → Passed (transferChecks g x) → Fit g x
 unfolding transferChecks
-by-name g x (no-source, (no-destination, (same, (none, (back, (over, (full, end))))))) = record {
+by-name g x (no-source, (no-destination, (same, (none, (back, (early, (over, (full, end)))))))) = record {
   source-in = leb-false _ _ no-source;
   destination-in = leb-false _ _ no-destination;
   apart = eqb-false _ _ same;
   weighty = let h : x .weight ≢ 0 = eqb-false _ _ none in omega arith;
   forward = ltb-false _ _ back;
+  milled = ltb-false _ _ early;
   room = ltb-false _ _ over;
   tally = eqb-false _ _ full;
 }

@@ -31,8 +31,8 @@ book rule vessels pieces last accepted balances t =
     first (bookChecks (record { rule = rule; vessels = vessels; pieces = pieces; last = last; accepted = accepted; balances = balances ++ replicate (mostVessels - length balances) 0 }) t)
 
 -- the number of a transfer where three vessels hold 5 each, the last minute is 7 and so many were accepted
-abbrev move : ℕ → ℕ → ℕ → ℕ → ℕ → ℕ
-move accepted s d t q = first (transferChecks (record { vessels = 3; balance = λ v. 5; last = 7; accepted = accepted }) (transferOf s d t q))
+abbrev move : ℕ → ℕ → ℕ → ℕ → ℕ → ℕ → ℕ
+move accepted s d t q age = first (transferChecks (record { vessels = 3; balance = λ v. 5; last = 7; accepted = accepted }) (transferOf s d t q age))
 
 -- the number of a report on three vessels, with so much room
 abbrev report : Report → ℕ → ℕ
@@ -75,23 +75,29 @@ edges =
     ∷ book 3 2 1 5 1 (0 ∷ 8 ∷ []) (1 ∷ 0 ∷ 5 ∷ 7 ∷ []) gives 4
     ∷ book 3 2 2 5 2 [] (1 ∷ 0 ∷ 5 ∷ TOP ∷ 1 ∷ 0 ∷ 5 ∷ 1 ∷ []) gives 4
     ∷ book 3 2 1 5 1 (0 ∷ 7 ∷ 1 ∷ []) (1 ∷ 0 ∷ 5 ∷ 7 ∷ []) gives 4
-    -- checks 5 to 10 of a transfer, and their order
-    ∷ move 0 2 1 7 1 gives 0
-    ∷ move 0 3 1 7 1 gives 5
-    ∷ move 0 1 2 7 1 gives 0
-    ∷ move 0 1 3 7 1 gives 5
-    ∷ move 0 3 3 7 0 gives 5
-    ∷ move 0 2 2 7 1 gives 6
-    ∷ move 0 2 2 7 0 gives 6
-    ∷ move 0 2 1 7 0 gives 7
-    ∷ move 0 2 1 6 0 gives 7
-    ∷ move 0 2 1 6 1 gives 8
-    ∷ move 0 2 1 6 TOP gives 8
-    ∷ move 0 2 1 7 (TOP - 5) gives 0
-    ∷ move 0 2 1 7 (TOP - 4) gives 9
-    ∷ move TOP 2 1 7 (TOP - 4) gives 9
-    ∷ move (TOP - 1) 2 1 7 1 gives 0
-    ∷ move TOP 2 1 7 1 gives 10
+    -- checks 5 to 10 and 21 of a transfer, and their order
+    ∷ move 0 2 1 7 1 0 gives 0
+    ∷ move 0 3 1 7 1 0 gives 5
+    ∷ move 0 1 2 7 1 0 gives 0
+    ∷ move 0 1 3 7 1 0 gives 5
+    ∷ move 0 3 3 7 0 0 gives 5
+    ∷ move 0 2 2 7 1 0 gives 6
+    ∷ move 0 2 2 7 0 0 gives 6
+    ∷ move 0 2 1 7 0 0 gives 7
+    ∷ move 0 2 1 6 0 0 gives 7
+    ∷ move 0 2 1 6 1 0 gives 8
+    ∷ move 0 2 1 6 TOP 0 gives 8
+    ∷ move 0 2 1 7 1 7 gives 0
+    ∷ move 0 2 1 7 1 8 gives 21
+    ∷ move 0 2 1 7 0 8 gives 7
+    ∷ move 0 2 1 6 1 7 gives 8
+    ∷ move 0 2 1 7 (TOP - 4) 8 gives 21
+    ∷ move TOP 2 1 7 1 8 gives 21
+    ∷ move 0 2 1 7 (TOP - 5) 0 gives 0
+    ∷ move 0 2 1 7 (TOP - 4) 0 gives 9
+    ∷ move TOP 2 1 7 (TOP - 4) 0 gives 9
+    ∷ move (TOP - 1) 2 1 7 1 0 gives 0
+    ∷ move TOP 2 1 7 1 0 gives 10
     -- checks 5, 12, 13 of a report, and their order
     ∷ report (Held 2) 3 gives 0
     ∷ report (Held 3) 3 gives 5

@@ -10,13 +10,13 @@ use lib.ListN.{length}
 use Rattle.table.specs.Table.{piecesOf, placesOf, lay}
 use Rattle.picking.specs.InTable.{Moved, inTable}
 use Rattle.picking.proofs.InTable.{in-table}
-use Rattle.refusal.specs.Numbers.{_if_, ifZero}
-use Rattle.refusal.proofs.Numbers.{first-append}
+use Rattle.refusal.specs.Numbers.{_if_}
+use Rattle.refusal.proofs.Numbers.{passed-first}
 use Rattle.book.specs.declared.Head.{Head}
 use Rattle.book.specs.declared.Transfer.{Transfer}
 use Rattle.book.specs.Head.{bookOf}
 use Rattle.book.specs.Transfer.{ofBook, transferChecks, moveOf, takes, piecesAfter}
-use Rattle.book.specs.Calls.{Answer, post}
+use Rattle.book.specs.Calls.{Answer, post, meaning}
 use Rattle.book.specs.Memory.{outcome, numberOf, callOn}
 use Rattle.book.proofs.Checks.{Fit, fit}
 use Rattle.book.proofs.Memory.{on-number, passed-book}
@@ -28,24 +28,20 @@ module _ (h : Head) (t : List ℕ) (x : Transfer) where
   abbrev moved : Moved
   moved = inTable (h .rule) (moveOf x) (piecesOf (h .pieces) t)
 
-  -- a transfer that is answered 0 has passed checks 5 to 10
+  -- a transfer that is answered 0 has passed checks 5 to 10 and 21
   pub passed-own : numberOf h t (post x) ≡ 0 → Fit (ofBook (bookOf h t)) x
   unfolding transferChecks
   passed-own e =
       let b = bookOf h t in
       let own = sym (on-number h t (post x) _ refl (passed-book h t (post x) e)) ∙ e in
-      fit _ x (go _ _ (sym (first-append (transferChecks (ofBook b) x) (11 if ltb (placesOf t) (length (piecesAfter b x)) ∷ []) tt) ∙ own))
-    where
-      go : (n m : ℕ) → ifZero n m n ≡ 0 → n ≡ 0
-      go zero m e = refl
-      go (suc n) m e = e
+      fit _ x (passed-first (transferChecks (ofBook b) x) (11 if ltb (placesOf t) (length (piecesAfter b x)) ∷ []) tt own)
 
   pub in-words : (callOn h t (post x)) .number ≡ 0 → ((callOn h t (post x)) .table ≡ lay (moved .pieces) t) × ((callOn h t (post x)) .answer ≡ movedAnswer moved)
   unfolding callOn takes
   in-words z = go (numberOf h t (post x)) refl z
     where
-      go : (n : ℕ) → numberOf h t (post x) ≡ n → (outcome h t (post x) n) .number ≡ 0
-          → ((outcome h t (post x) n) .table ≡ lay (moved .pieces) t) × ((outcome h t (post x) n) .answer ≡ movedAnswer moved)
+      go : (n : ℕ) → numberOf h t (post x) ≡ n → (outcome h t (meaning (post x)) n) .number ≡ 0
+          → ((outcome h t (meaning (post x)) n) .table ≡ lay (moved .pieces) t) × ((outcome h t (meaning (post x)) n) .answer ≡ movedAnswer moved)
       go zero e u =
           let apart = passed-own e .apart in
           rw (in-table (h .rule) (moveOf x) (piecesOf (h .pieces) t) (λ q. apart (sym q))) (refl, refl)

@@ -9,5 +9,6 @@ pub mod Drained
 pub mod After
 pub mod Lists
 pub mod Marked
+pub mod Ages
 pub mod InWords
 pub mod Edges

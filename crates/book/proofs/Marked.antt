@@ -1,4 +1,4 @@
--- K1 to K10, the marked cases of document 01: one table over the definitions that the contracts cite, and one theorem.
+-- K1 to K10, the marked cases of document 01, with age 0: one table over the definitions that the contracts cite, and one theorem.
 -- K8 speaks of every book and every rule: `even-law` is that law.
 -- Assumes nothing.
 use mathlib.Core.Path.{_≡_, refl}
@@ -11,9 +11,10 @@ use Rattle.picking.specs.Selection.{precedes}
 use Rattle.picking.specs.Taking.{takeUpTo, taken}
 use Rattle.book.specs.declared.Transfer.{Transfer}
 use Rattle.book.specs.Head.{Book, tab, balancesOf, allFit, same, addsUp, opening}
-use Rattle.book.specs.Transfer.{transferOf, transferChecks, takes}
+use Rattle.book.specs.Transfer.{transferChecks, takes}
 use Rattle.book.specs.Calls.{post, meaning}
 use Rattle.book.specs.Memory.{bookChecks, numberOf, callOn}
+use Rattle.book.specs.Former.{unaged}
 use Rattle.book.specs.WeighBook.{WeighBook, blank, weighNumber, feed}
 use Rattle.book.specs.Lists.{Journal, callsOn, answered, evens, numbers}
 use Rattle.book.proofs.Sound.{all-taken}
@@ -70,11 +71,11 @@ even r = evens (r .log) ∷ []
 
 -- the six movements of the published table
 abbrev six : List Transfer
-six = transferOf 1 2 1 3 ∷ transferOf 2 0 3 5 ∷ transferOf 0 1 4 3 ∷ transferOf 1 2 5 7 ∷ transferOf 2 1 7 2 ∷ transferOf 2 0 8 1 ∷ []
+six = unaged 1 2 1 3 ∷ unaged 2 0 3 5 ∷ unaged 0 1 4 3 ∷ unaged 1 2 5 7 ∷ unaged 2 1 7 2 ∷ unaged 2 0 8 1 ∷ []
 
 -- two lots, and then all of them moved on
 abbrev emptied : List Transfer
-emptied = transferOf 0 1 1 2 ∷ transferOf 0 1 2 3 ∷ transferOf 1 2 3 5 ∷ []
+emptied = unaged 0 1 1 2 ∷ unaged 0 1 2 3 ∷ unaged 1 2 3 5 ∷ []
 
 abbrev case : Name → ℕ → List Transfer → (Journal → List ℕ) → List ℕ → Case
 case k r xs f ns = record { name = k; rule = r; given = xs; look = f; wanted = ns }
@@ -93,13 +94,13 @@ marked =
     ∷ case K6 1 six balances (3 ∷ 2 ∷ 4 ∷ 3 ∷ 2 ∷ 4 ∷ [])
     ∷ case K6 2 six balances (3 ∷ 2 ∷ 4 ∷ 3 ∷ 2 ∷ 4 ∷ [])
     ∷ case K6 3 six balances (3 ∷ 2 ∷ 4 ∷ 3 ∷ 2 ∷ 4 ∷ [])
-    ∷ case K7 2 (six ++ transferOf 0 1 8 1 ∷ transferOf 0 1 7 1 ∷ []) answers (0 ∷ 0 ∷ 0 ∷ 0 ∷ 0 ∷ 0 ∷ 0 ∷ 8 ∷ [])
+    ∷ case K7 2 (six ++ unaged 0 1 8 1 ∷ unaged 0 1 7 1 ∷ []) answers (0 ∷ 0 ∷ 0 ∷ 0 ∷ 0 ∷ 0 ∷ 0 ∷ 8 ∷ [])
     ∷ case K8 0 emptied even (1 ∷ [])
     ∷ case K8 1 emptied even (1 ∷ [])
     ∷ case K8 2 emptied even (1 ∷ [])
     ∷ case K8 3 emptied even (1 ∷ [])
-    ∷ case K9 0 (transferOf 0 1 0 4294967294 ∷ transferOf 0 1 0 2 ∷ transferOf 0 1 0 1 ∷ []) answers (0 ∷ 9 ∷ 0 ∷ [])
-    ∷ case K10 0 (transferOf 1 1 0 0 ∷ []) answers (6 ∷ [])
+    ∷ case K9 0 (unaged 0 1 0 4294967294 ∷ unaged 0 1 0 2 ∷ unaged 0 1 0 1 ∷ []) answers (0 ∷ 9 ∷ 0 ∷ [])
+    ∷ case K10 0 (unaged 1 1 0 0 ∷ []) answers (6 ∷ [])
     ∷ []
 
 pub marked-cases : map seen marked ≡ map (λ c. c .wanted) marked

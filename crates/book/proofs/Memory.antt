@@ -12,7 +12,7 @@ use borrow.Author.Tests.{le-leb, le-ltb, ltb-true, ltb-false, eq-eqb, ne-eqb}
 use Rattle.table.specs.Table.{placesOf}
 use Rattle.table.proofs.Table.{pieces-flat}
 use Rattle.refusal.specs.Numbers.{first, ifZero}
-use Rattle.refusal.proofs.Numbers.{passed, first-append}
+use Rattle.refusal.proofs.Numbers.{not-zero, first-zero, passed, first-append}
 use Rattle.book.specs.declared.Head.{Head}
 use Rattle.book.specs.Head.{Book, lastRule, mostVessels, balancesOf, headOf, bookOf, addsUp}
 use Rattle.book.specs.Calls.{Call, meaning, noAnswer}
@@ -44,7 +44,7 @@ pub refused-on : (h : Head) (t : List ℕ) (c : Call) (n : ℕ) → numberOf h t
 unfolding callOn
 refused-on h t c n e nz = rw e (go n nz)
   where
-    go : (n : ℕ) → (n ≡ 0 → ⊥) → outcome h t c n ≡ record { number = n; answer = noAnswer; head = h; table = t; room = meaning c .lent; even = 0 }
+    go : (n : ℕ) → (n ≡ 0 → ⊥) → outcome h t (meaning c) n ≡ record { number = n; answer = noAnswer; head = h; table = t; room = meaning c .lent; even = 0 }
     go zero nz = absurd (nz refl)
     go (suc n) nz = refl
 
@@ -52,7 +52,7 @@ pub refused-memory : (h : Head) (t : List ℕ) (c : Call) → ((callOn h t c) .n
 unfolding callOn
 refused-memory h t c nz = go (numberOf h t c) nz
   where
-    go : (n : ℕ) → ((outcome h t c n) .number ≡ 0 → ⊥) → ((outcome h t c n) .head ≡ h) × ((outcome h t c n) .table ≡ t)
+    go : (n : ℕ) → ((outcome h t (meaning c) n) .number ≡ 0 → ⊥) → ((outcome h t (meaning c) n) .head ≡ h) × ((outcome h t (meaning c) n) .table ≡ t)
     go zero nz = absurd (nz refl)
     go (suc n) nz = (refl, refl)
 
@@ -60,7 +60,7 @@ pub refused-even : (h : Head) (t : List ℕ) (c : Call) → ((callOn h t c) .num
 unfolding callOn
 refused-even h t c nz = go (numberOf h t c) nz
   where
-    go : (n : ℕ) → ((outcome h t c n) .number ≡ 0 → ⊥) → (outcome h t c n) .even ≡ 0
+    go : (n : ℕ) → ((outcome h t (meaning c) n) .number ≡ 0 → ⊥) → (outcome h t (meaning c) n) .even ≡ 0
     go zero nz = absurd (nz refl)
     go (suc n) nz = refl
 
@@ -71,22 +71,14 @@ unfolding numberOf bookChecks
 number-split h t c = first-append (bookChecks h t) (meaning c .checks (placesOf t) (bookOf h t)) tt
 
 pub off-number : (h : Head) (t : List ℕ) (c : Call) (n : ℕ) → n ≡ first (bookChecks h t) → (n ≡ 0 → ⊥) → numberOf h t c ≡ n
-off-number h t c n e nz = number-split h t c ∙ rw (← e) (go n nz)
-  where
-    go : (n : ℕ) → (n ≡ 0 → ⊥) → ifZero n (first (meaning c .checks (placesOf t) (bookOf h t))) n ≡ n
-    go zero nz = absurd (nz refl)
-    go (suc n) nz = refl
+off-number h t c n e nz = number-split h t c ∙ rw (← e) (sym (not-zero n _ n nz))
 
 pub on-number : (h : Head) (t : List ℕ) (c : Call) (n : ℕ) → n ≡ first (bookChecks h t) → n ≡ 0 → numberOf h t c ≡ first (meaning c .checks (placesOf t) (bookOf h t))
 on-number h t c n e z = number-split h t c ∙ rw (← e, z)
 
 -- a call that is accepted has passed checks 1 and 4
 pub passed-book : (h : Head) (t : List ℕ) (c : Call) → numberOf h t c ≡ 0 → first (bookChecks h t) ≡ 0
-passed-book h t c e = go (first (bookChecks h t)) (sym (number-split h t c) ∙ e)
-  where
-    go : (n : ℕ) → ifZero n (first (meaning c .checks (placesOf t) (bookOf h t))) n ≡ 0 → n ≡ 0
-    go zero u = refl
-    go (suc n) u = u
+passed-book h t c e = first-zero (first (bookChecks h t)) _ (sym (number-split h t c) ∙ e)
 
 -- checks 1 and 4 are passed
 pub book-passed : (h : Head) (t : List ℕ) → first (bookChecks h t) ≡ 0 → (4 ≤ length t) × (addsUp h t ≡ true)

@@ -4,5 +4,6 @@ pub mod Transfer
 pub mod Reports
 pub mod Calls
 pub mod Memory
+pub mod Former
 pub mod WeighBook
 pub mod Lists

@@ -13,7 +13,7 @@ use Rattle.book.specs.declared.Head.{Head}
 use Rattle.book.specs.declared.Transferred.{Transferred}
 use Rattle.book.specs.declared.Reported.{Reported}
 use Rattle.book.specs.Head.{headOf, bookOf, addsUp}
-use Rattle.book.specs.Calls.{Call, Answer, noAnswer, meaning}
+use Rattle.book.specs.Calls.{Call, Answer, noAnswer, Meaning, meaning}
 
 -- All that a call gives back and leaves, and how often it was an even transfer.
 pub record Outcome : Type 0 where
@@ -24,23 +24,23 @@ pub record Outcome : Type 0 where
   pub room : List ℕ
   pub even : ℕ
 
--- "a transfer 1, 4, then 5 to 11; reports 1, 4, 5, 12, 13. The first that applies is given."
+-- "a transfer 1, 4, then 5 to 11 (21 straight after 8); reports 1, 4, 5, 12, 13. The first that applies is given."
 unfoldable pub bookChecks : Head → List ℕ → List Check
 bookChecks h t = 1 if ltb (length t) 4 ∷ 4 if not (addsUp h t) ∷ []
 
 unfoldable pub numberOf : Head → List ℕ → Call → ℕ
 numberOf h t c = first (bookChecks h t ++ meaning c .checks (placesOf t) (bookOf h t))
 
-abbrev pub outcome : Head → List ℕ → Call → ℕ → Outcome
-outcome h t c zero =
+-- what a call of this meaning leaves, where this is its number
+abbrev pub outcome : Head → List ℕ → Meaning → ℕ → Outcome
+outcome h t m zero =
     let b = bookOf h t in
-    let m = meaning c in
     record { number = 0; answer = m .answer b; head = headOf (m .next b); table = m .table b t; room = m .room b; even = m .even b }
-outcome h t c (suc n) = record { number = suc n; answer = noAnswer; head = h; table = t; room = meaning c .lent; even = 0 }
+outcome h t m (suc n) = record { number = suc n; answer = noAnswer; head = h; table = t; room = m .lent; even = 0 }
 
 -- a call on a head and a table
 unfoldable pub callOn : Head → List ℕ → Call → Outcome
-callOn h t c = outcome h t c (numberOf h t c)
+callOn h t c = outcome h t (meaning c) (numberOf h t c)
 
 -- the outcome as the code answers it
 abbrev pub transferred : Outcome → Transferred

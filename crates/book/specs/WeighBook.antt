@@ -24,7 +24,8 @@ blank size = record { vessels = size; weight = λ v. 0; births = λ o t. 0; last
 abbrev pub ofWeigh : WeighBook → Standing
 ofWeigh w = record { vessels = w .vessels; balance = w .weight; last = w .last; accepted = w .accepted }
 
--- "born = q − W[s] if positive, else 0; W[s] falls by q − born; W[d] rises by q; B[s, t] rises by born; last = t; accepted rises by 1"
+-- "born = q − W[s] if positive, else 0; W[s] falls by q − born; W[d] rises by q; B[s, t] rises by born; last = t; accepted rises by 1",
+-- where "the weigh book enters births under t − age"
 abbrev pub weighed : WeighBook → Transfer → WeighBook
 weighed w x =
     let born = x .weight - w .weight (x .source) in
@@ -42,7 +43,7 @@ pub record Weighing : Type 0 where
   pub next : WeighBook → WeighBook
   pub forecasts : Bool
 
--- "it checks 5 to 10 .. with W as balance"; reports it is not fed
+-- "it checks 5 to 10 .. with W as balance", and "21 as the transfer does"; reports it is not fed
 abbrev pub weighing : Call → Weighing
 weighing (post x) = record { checks = λ w. transferChecks (ofWeigh w) x; next = λ w. weighed w x; forecasts = true }
 weighing (ask q room) = record { checks = λ w. []; next = λ w. w; forecasts = false }

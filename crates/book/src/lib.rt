@@ -24,12 +24,16 @@ pub struct Opened {
     pub head: Head,
 }
 
-// A transfer of weight from a vessel to another at a minute.
+// The largest age, in minutes: a number of 16 bits.
+pub const MOST_AGE: u32 = 65535;
+
+// A transfer of weight from a vessel to another at a minute. What is born was milled `age` minutes before.
 pub struct Transfer {
     pub source: u32,
     pub destination: u32,
     pub minute: u32,
     pub weight: u32,
+    pub age: u16,
 }
 
 // What a transfer answers: how many pieces moved whole, how many were split, the weight born.

@@ -26,7 +26,8 @@ pub fn empty_head(rule: u32, vessels: u32) -> Head
     }
 }
 
-fn refused(number: u32) -> Opened
+// A refusal: a head of zeros.
+pub fn refused(number: u32) -> Opened
     ensures { λ r. ⌜ r ≡ notOpened number ⌝ }
 {
     Opened {

@@ -2,14 +2,15 @@
 use Prim.Native.Nat.{ℕ, zero, suc, _+_, _*_, _/_, _%_, _^_, _<_, _≤_}
 use native.Mathlib.Nat.{pow-zero, pow-succ'}
 use native.Mathlib.Omega.{arith}
-use mathlib.Core.Path.{_≡_, refl, sym, ap, ap₂, _∙_}
+use mathlib.Core.Path.{_≡_, refl, ap, ap₂, _∙_}
 use mathlib.Core.List.{List, [], _∷_, _++_, append-assoc, flatMap}
 use lib.ListN.{length, getD, drop, length-drop}
 use lib.Seq.{getD-drop, drop-drop}
+use Rattle.book.specs.Transfer.{mostAge}
 use Rattle.fields.specs.declared.entries.Entry.{Entry}
 use Rattle.fields.specs.Bytes.{valueIn, bytesOf, groups}
 use Rattle.fields.specs.Movements.{entrySize, noEntry, entryIn, entryBytes, entriesIn, entriesGiven, entriesBytes, numbersIn}
-use Rattle.fields.proofs.EntryLaws.{Sound}
+use Rattle.fields.proofs.GroupLaws.{group-at}
 
 -- Each number of the list is below a bound, as each byte of a slice is below 256.
 abbrev pub Below : ℕ → List ℕ → Type 0
@@ -26,6 +27,12 @@ back-number (suc w) x r h =
     let e : x < 256 * 256 ^ w = rw pow-succ' at h in
     let ih = back-number w (x / 256) r (omega arith) in
     omega (arith, ih)
+
+-- bytes hold no more than their width can
+value-below : (w : ℕ) (l : List ℕ) → Below 256 l → valueIn w l < 256 ^ w
+unfolding valueIn
+value-below zero l b = rw pow-zero (omega arith)
+value-below (suc w) l b = let ih = value-below w (drop 1 l) (below-drop 256 1 l b) in rw pow-succ' (omega (arith, b 0))
 
 -- bytes through the number in them
 back-bytes : (w : ℕ) (l : List ℕ) → w ≤ length l → Below 256 l → bytesOf w (valueIn w l) ++ drop w l ≡ l
@@ -46,7 +53,7 @@ back-at s at w x e h b =
 pub record Fit (e : Entry) : Type 0 where
   pub source : e .source < 256
   pub destination : e .destination < 256
-  pub filler : e .filler < 65536
+  pub age : e .age < 65536
   pub minute : e .minute < 4294967296
   pub weight : e .weight < 4294967296
 
@@ -57,7 +64,7 @@ back-entry e r f =
     let l = entryBytes e ++ r in
     let a : valueIn 1 l ≡ e .source = back-number 1 (e .source) _ (f .source) in
     let b : valueIn 1 (drop 1 l) ≡ e .destination = back-number 1 (e .destination) _ (f .destination) in
-    let c : valueIn 2 (drop 2 l) ≡ e .filler = back-number 2 (e .filler) _ (f .filler) in
+    let c : valueIn 2 (drop 2 l) ≡ e .age = back-number 2 (e .age) _ (f .age) in
     let d : valueIn 4 (drop 4 l) ≡ e .minute = back-number 4 (e .minute) _ (f .minute) in
     let g : valueIn 4 (drop 8 l) ≡ e .weight = back-number 4 (e .weight) _ (f .weight) in
     simp (a, b, c, d, g)
@@ -88,10 +95,15 @@ back-movements (suc m) l h b =
     ap (λ (t : List ℕ). entryBytes (entryIn l) ++ t) (back-movements m (drop entrySize l) (rw length-drop (omega arith)) (below-drop 256 entrySize l b))
     ∙ back-twelve l (omega arith) b
 
--- the numbers of movements with filler 0 give these movements
-pub back-given : (vessels : ℕ) (es : List Entry) → ((i : ℕ) → i < length es → Sound vessels (getD es i noEntry)) → entriesGiven (length es) (numbersIn es) ≡ es
+-- two bytes hold no age that the writer refuses
+pub ages-read : (count : ℕ) (l : List ℕ) → Below 256 l → (i : ℕ) → i < count → getD (entriesIn count l) i noEntry .age ≤ mostAge
+ages-read count l b i h =
+    let d = drop (entrySize * i) l in
+    let small = value-below 2 (drop 2 d) (below-drop 256 2 d (below-drop 256 (entrySize * i) l b)) in
+    rw (group-at entrySize entryIn count l i noEntry h) (omega (arith, small))
+
+-- the numbers of movements give these movements
+pub back-given : (es : List Entry) → entriesGiven (length es) (numbersIn es) ≡ es
 unfolding groups flatMap
-back-given vessels [] h = refl
-back-given vessels (e ∷ es) h =
-    let z : 0 ≡ e .filler = sym (h 0 (omega arith) .filler) in
-    ap₂ (λ (x : Entry) (xs : List Entry). x ∷ xs) (rw z) (back-given vessels es (λ i k. h (suc i) (omega arith)))
+back-given [] = refl
+back-given (e ∷ es) = ap (λ (xs : List Entry). e ∷ xs) (back-given es)

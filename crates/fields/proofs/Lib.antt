@@ -1,5 +1,4 @@
 -- Laws that belong to no one function.
-pub mod CheckLaws
 pub mod ByteLaws
 pub mod GroupLaws
 pub mod EntryLaws

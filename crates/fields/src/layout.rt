@@ -10,7 +10,7 @@ pub const NAME_SIZE: usize = 8; // bytes of a name
 
 pub const ENTRY_SIZE: usize = 12; // bytes of a movement
 
-pub const GIVEN_SIZE: usize = 4; // numbers that the writer is given for a movement: s, d, t, q
+pub const GIVEN_SIZE: usize = 5; // numbers that the writer is given for a movement: s, d, t, q, age
 
 pub const LEAST_MOVEMENTS: usize = 1;
 

@@ -2,7 +2,8 @@
 -- the calls, so that demand 3 holds of it.
 -- Assumes nothing.
 use mathlib.Core.Path.{_≡_, refl, sym, ap, _∙_}
-use mathlib.Core.List.{List, _++_, append-assoc, append-nil}
+use mathlib.Core.Bool.{Bool, true, false, cond}
+use mathlib.Core.List.{List, [], _∷_, _++_, append-assoc, append-nil}
 use Prim.Native.Nat.{ℕ, zero, suc, _+_, _-_, _*_, _≤_, _<_}
 use native.Mathlib.Nat.{add-zero, sub-zero}
 use native.Mathlib.Numerals.{add-one}
@@ -10,35 +11,41 @@ use native.Mathlib.Omega.{arith}
 use lib.ListN.{length, getD, set, take, drop, length-set, take-append-drop}
 use lib.Seq.{drop-drop, getD-drop, take-suc-set, drop-set-lt}
 use borrow.Author.Tests.{eq-eqb, ne-eqb}
+use Rattle.refusal.specs.Numbers.{_if_, first, ifZero}
+use Rattle.refusal.proofs.Numbers.{not-zero, first-append}
 use Rattle.book.specs.declared.Head.{Head}
 use Rattle.book.specs.declared.Opened.{Opened}
 use Rattle.book.specs.declared.Transferred.{Transferred}
 use Rattle.book.specs.declared.Reported.{Reported}
-use Rattle.book.specs.Head.{opening}
+use Rattle.book.specs.Head.{notOpened, openChecks, opens, opening}
 use Rattle.book.specs.declared.Report.{Report}
-use Rattle.book.specs.Transfer.{transferOf}
+use Rattle.book.specs.declared.Transfer.{Transfer}
 use Rattle.book.specs.Memory.{callOn}
 use Rattle.book.specs.Lists.{callsOn}
 use Rattle.posting.specs.Posting.{Posts}
 use Rattle.reports.specs.Asking.{Asks}
-use Rattle.journal.specs.Carried.{callSize, reportOf, callOf, callIn, roomLeft, Makes, Carried, carried, MakesAll, callsIn, countCalls, CarriesOut}
+use Rattle.journal.specs.Carried.{callSize, reportOf, transferIn, reportIn, callIn, agesOff, roomLeft, Makes, Carried, carried, MakesAll, callsIn, countCalls, carryNumber, CarriesOut}
 use Rattle.reports.proofs.Asked.{asked-nothing}
 use Rattle.book.proofs.Lists.{demand-3}
 
 -- the kind tells the call
 module _ (h : Head) (t l : List ℕ) (at : ℕ) (room : List ℕ) where
-  is-call : callIn (drop at l) room ≡ callOf (getD l at 0) (getD l (at + 1) 0) (getD l (at + 2) 0) (getD l (at + 3) 0) (getD l (at + 4) 0) room
-  unfolding callIn
-  is-call = simp (getD-drop, add-zero)
+  kind-is : getD (drop at l) 0 0 ≡ getD l at 0
+  kind-is = simp (getD-drop, add-zero)
 
-  pub made-transfer : getD l at 0 ≡ 0 → (z : Transferred) (t′ : List ℕ) → Posts h (transferOf (getD l (at + 1) 0) (getD l (at + 2) 0) (getD l (at + 3) 0) (getD l (at + 4) 0)) t t′ z
+  pub report-read : (q : Report) → q ≡ reportOf (getD l at 0) (getD l (at + 1) 0) (getD l (at + 2) 0) (getD l (at + 3) 0) → q ≡ reportIn (drop at l)
+  report-read q e = e ∙ simp (getD-drop, add-zero)
+
+  pub made-transfer : getD l at 0 ≡ 0 → (x : Transfer) → x ≡ transferIn (drop at l) → (z : Transferred) (t′ : List ℕ) → Posts h x t t′ z
       → Makes h (callIn (drop at l) room) t room t′ room (record { number = z .number; head = z .head })
-  made-transfer e z t′ p =
-      rw (is-call, eq-eqb _ _ e) (record { answer = ap (λ (z : Transferred). record { number = z .number; head = z .head }) (p .answer); table = p .table; room = refl })
+  unfolding callIn
+  made-transfer e x ex z t′ p =
+      rw (eq-eqb (getD (drop at l) 0 0) 0 (kind-is ∙ e), ← ex) (record { answer = ap (λ (z : Transferred). record { number = z .number; head = z .head }) (p .answer); table = p .table; room = refl })
 
-  pub made-report : (getD l at 0 ≡ 0 → ⊥) → (q : Report) → q ≡ reportOf (getD l at 0) (getD l (at + 1) 0) (getD l (at + 2) 0) (getD l (at + 3) 0) → (z : Reported) (r′ : List ℕ)
+  pub made-report : (getD l at 0 ≡ 0 → ⊥) → (q : Report) → q ≡ reportIn (drop at l) → (z : Reported) (r′ : List ℕ)
       → Asks h q t room r′ z → Makes h (callIn (drop at l) room) t room t r′ z
-  made-report ne q e z r′ p = rw (is-call, ne-eqb _ _ ne, ← e) (record { answer = p .answer; table = sym (asked-nothing h t q room .1); room = p .room })
+  unfolding callIn
+  made-report ne q e z r′ p = rw (ne-eqb (getD (drop at l) 0 0) 0 (λ z. ne (sym kind-is ∙ z)), ← e) (record { answer = p .answer; table = sym (asked-nothing h t q room .1); room = p .room })
 
 -- Where carrying out stands before call i of n: the numbers so far and those that are left make the whole, and so do head, table and room.
 pub record Going (n : ℕ) (l : List ℕ) (h₀ : Head) (t₀ a₀ r₀ : List ℕ) (h : Head) (t a r : List ℕ) (i : ℕ) : Type 0 where
@@ -74,8 +81,8 @@ module _ (n : ℕ) (l : List ℕ) (h₀ : Head) (t₀ a₀ r₀ : List ℕ) (h :
   unfolding carried
   going-next z t′ r′ q m made lt lr =
       let d : n - i ≡ suc (n - suc i) = omega arith in
-      let m5 : callSize * i + callSize ≡ callSize * suc i = omega arith in
-      let k : drop callSize (drop (callSize * i) l) ≡ drop (callSize * suc i) l = drop-drop callSize (callSize * i) l ∙ ap (λ (j : ℕ). drop j l) m5 in
+      let size : callSize * i + callSize ≡ callSize * suc i = omega arith in
+      let k : drop callSize (drop (callSize * i) l) ≡ drop (callSize * suc i) l = drop-drop callSize (callSize * i) l ∙ ap (λ (j : ℕ). drop j l) size in
       let long : i < length a = rw (g .answers-length) (omega arith) in
       record {
         inside = omega arith;
@@ -119,20 +126,47 @@ journal-is (suc n) l h t r =
 
 -- `carry_out`, at its returns
 module _ (rule size : ℕ) (l t a r : List ℕ) (o : Opened) (eo : o ≡ opening rule size) where
-  pub carry-refused : (o .number ≡ 0 → ⊥) → CarriesOut rule size l t a r o t a r
-  carry-refused nz =
-      let n = ap (λ (x : Opened). x .number) eo in
-      record { refused = λ u. (eo, refl, refl, refl); done = λ z. absurd (nz (n ∙ z)); demand = λ z. absurd (nz (n ∙ z)) }
+  -- its number, by that of opening
+  number-parts : carryNumber rule size l a ≡ ifZero (o .number) (cond (agesOff (countCalls l a) l) 18 0) (o .number)
+  unfolding carryNumber opening
+  number-parts = first-append (openChecks rule size) (18 if agesOff (countCalls l a) l ∷ []) tt ∙ rw eo (go (first (openChecks rule size)) (agesOff (countCalls l a) l))
+    where
+      go : (n : ℕ) (off : Bool) → ifZero n (first (18 if off ∷ [])) n ≡ ifZero (opens rule size n .number) (cond off 18 0) (opens rule size n .number)
+      go zero true = refl
+      go zero false = refl
+      go (suc n) off = refl
 
-  pub carry-done : o .number ≡ 0 → (n : ℕ) → n ≡ countCalls l a → (h : Head) (t′ a′ r′ : List ℕ)
-      → MakesAll n l (o .head) t a r t′ a′ r′ h → CarriesOut rule size l t a r (record { number = 0; head = h }) t′ a′ r′
-  carry-done z n en h t′ a′ r′ p =
-      let e = ap (λ (x : Opened). x .number) eo in
-      let f = ap (λ (x : Opened). x .head) eo in
-      let j = journal-is (countCalls l a) l ((opening rule size) .head) t r in
-      let q = rw (en, f) at p in
-      record {
-        refused = λ u. absurd (u (sym e ∙ z));
-        done = λ u. (ap (λ (x : Head). record { number = 0; head = x }) (q .head), q .table, q .answers, q .room);
-        demand = λ u. (q .head ∙ j .0, q .table ∙ j .1, demand-3 rule size u t _);
-      }
+  -- refused with this number, which is that of the list
+  refused-with : (n : ℕ) → carryNumber rule size l a ≡ n → (n ≡ 0 → ⊥) → (z : Opened) → z ≡ notOpened n → CarriesOut rule size l t a r z t a r
+  refused-with n e nz z ez = record { refused = λ u. (rw e ez, refl, refl, refl); done = λ u. absurd (nz (sym e ∙ u)); demand = λ u. absurd (nz (sym e ∙ u)) }
+
+  unopened : (o .number ≡ 0 → ⊥) → o ≡ notOpened (o .number)
+  unfolding opening
+  unopened nz = go (first (openChecks rule size)) eo
+    where
+      go : (n : ℕ) → o ≡ opens rule size n → o ≡ notOpened (o .number)
+      go zero e = absurd (nz (ap (λ (x : Opened). x .number) e))
+      go (suc n) e = rw e
+
+  pub carry-unopened : (o .number ≡ 0 → ⊥) → CarriesOut rule size l t a r o t a r
+  carry-unopened nz = refused-with (o .number) (number-parts ∙ sym (not-zero (o .number) _ (o .number) nz)) nz o (unopened nz)
+
+  module _ (z : o .number ≡ 0) (n : ℕ) (en : n ≡ countCalls l a) (off : Bool) (eoff : off ≡ agesOff n l) where
+    pub carry-refused : off ≡ true → (x : Opened) → x ≡ notOpened 18 → CarriesOut rule size l t a r x t a r
+    carry-refused h x ex = refused-with 18 (number-parts ∙ rw (z, ← en, ← eoff, h)) (λ q. omega arith) x ex
+
+    pub carry-ready : off ≡ false → agesOff n l ≡ false
+    carry-ready h = sym eoff ∙ h
+
+    pub carry-done : off ≡ false → (h : Head) (t′ a′ r′ : List ℕ)
+        → MakesAll n l (o .head) t a r t′ a′ r′ h → CarriesOut rule size l t a r (record { number = 0; head = h }) t′ a′ r′
+    carry-done free h t′ a′ r′ p =
+        let e : carryNumber rule size l a ≡ 0 = number-parts ∙ rw (z, ← en, ← eoff, free) in
+        let f = ap (λ (x : Opened). x .head) eo in
+        let j = journal-is (countCalls l a) l ((opening rule size) .head) t r in
+        let q = rw (en, f) at p in
+        record {
+          refused = λ u. absurd (u e);
+          done = λ u. (ap (λ (x : Head). record { number = 0; head = x }) (q .head), q .table, q .answers, q .room);
+          demand = λ u. (q .head ∙ j .0, q .table ∙ j .1, demand-3 rule size (sym (ap (λ (x : Opened). x .number) eo) ∙ z) t _);
+        }

@@ -1,1 +1,2 @@
+pub mod AgeLaws
 pub mod Carrying

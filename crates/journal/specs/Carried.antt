@@ -1,37 +1,51 @@
--- A list of calls in numbers, carried out on a fresh book: demand 3 of running code. Five numbers are a call: its kind and its arguments.
--- Kind 0 is a transfer (source, destination, minute, weight), 1 the held report (vessel), 2 spread (origin, from, to), any other the whole report.
+-- A list of calls in numbers, carried out on a fresh book: demand 3 of running code. Six numbers are a call: its kind and its arguments.
+-- Kind 0 is a transfer (source, destination, minute, weight, age), 1 the held report (vessel), 2 spread (origin, from, to), any other the whole report.
+-- An age is a number of 16 bits: a list with a transfer of a larger one is refused whole, with 18.
 -- Definitions only. Assumes nothing.
 use mathlib.Core.Path.{_≡_}
-use mathlib.Core.Bool.{cond}
+use mathlib.Core.Bool.{Bool, false, cond, _&&_, _||_}
 use mathlib.Core.List.{List, [], _∷_, _++_}
 use Prim.Native.Nat.{ℕ, zero, suc, _/_, min}
-use lib.Dec.{eqb}
+use lib.Dec.{eqb, ltb}
 use lib.ListN.{length, getD, drop}
+use Rattle.refusal.specs.Numbers.{_if_, first}
 use Rattle.book.specs.declared.Head.{Head}
 use Rattle.book.specs.declared.Opened.{Opened}
-use Rattle.book.specs.Head.{opening}
+use Rattle.book.specs.Head.{notOpened, openChecks, opening}
 use Rattle.book.specs.declared.Report.{Report}
 use Rattle.book.specs.declared.Report.the-variants.{Held, Spread, Whole}
 use Rattle.book.specs.declared.Reported.{Reported}
-use Rattle.book.specs.Transfer.{transferOf}
+use Rattle.book.specs.declared.Transfer.{Transfer}
+use Rattle.book.specs.Transfer.{mostAge, transferOf}
 use Rattle.book.specs.Calls.{Call, post, ask}
 use Rattle.book.specs.Memory.{Outcome, callOn, reported}
 use Rattle.book.specs.Lists.{callsOn, Demand3}
 
 abbrev pub callSize : ℕ
-callSize = 5
+callSize = 6
 
 -- the report of a kind, with its arguments
 abbrev pub reportOf : ℕ → ℕ → ℕ → ℕ → Report
 reportOf kind a b c = cond (eqb kind 1) (Held a) (cond (eqb kind 2) (Spread a b c) Whole)
 
--- the call of a kind, with its arguments and the room that it is lent
-abbrev pub callOf : ℕ → ℕ → ℕ → ℕ → ℕ → List ℕ → Call
-callOf kind a b c d room = cond (eqb kind 0) (post (transferOf a b c d)) (ask (reportOf kind a b c) room)
+-- the transfer in the first six numbers, where they are one, and the report
+abbrev pub transferIn : List ℕ → Transfer
+transferIn l = transferOf (getD l 1 0) (getD l 2 0) (getD l 3 0) (getD l 4 0) (getD l 5 0)
 
--- the call in the first five numbers
+abbrev pub reportIn : List ℕ → Report
+reportIn l = reportOf (getD l 0 0) (getD l 1 0) (getD l 2 0) (getD l 3 0)
+
+-- the call in the first six numbers, with the room that it is lent
 unfoldable pub callIn : List ℕ → List ℕ → Call
-callIn l room = callOf (getD l 0 0) (getD l 1 0) (getD l 2 0) (getD l 3 0) (getD l 4 0) room
+callIn l room = cond (eqb (getD l 0 0) 0) (post (transferIn l)) (ask (reportIn l) room)
+
+-- whether the first six numbers are a transfer with an age above the largest, and whether some of the first n calls are
+unfoldable pub ageOff : List ℕ → Bool
+ageOff l = eqb (getD l 0 0) 0 && ltb mostAge (getD l 5 0)
+
+unfoldable pub agesOff : ℕ → List ℕ → Bool
+agesOff zero l = false
+agesOff (suc n) l = ageOff l || agesOff n (drop callSize l)
 
 -- the room after a call: a transfer has none to write to
 abbrev pub roomLeft : Call → Outcome → List ℕ → List ℕ
@@ -80,17 +94,21 @@ pub record MakesAll (n : ℕ) (calls : List ℕ) (h : Head) (t a r t′ a′ r�
 abbrev pub countCalls : List ℕ → List ℕ → ℕ
 countCalls calls answers = min (length calls / callSize) (length answers)
 
+-- the checks of carrying out a list: those of opening, then 18
+unfoldable pub carryNumber : ℕ → ℕ → List ℕ → List ℕ → ℕ
+carryNumber rule size calls answers = first (openChecks rule size ++ (18 if agesOff (countCalls calls answers) calls) ∷ [])
+
 -- What carrying out a list of calls promises: with the rule and V that were given, the numbers of the calls, the four lent slices before, and the
 -- answer and the slices after.
 pub record CarriesOut (rule size : ℕ) (calls t answers room : List ℕ) (r : Opened) (t′ answers′ room′ : List ℕ) : Type 0 where
-  -- a refused opening leaves all as it was
-  pub refused : ((opening rule size) .number ≡ 0 → ⊥) → (r ≡ opening rule size) × (t′ ≡ t) × (answers′ ≡ answers) × (room′ ≡ room)
-  -- an accepted one is followed by the calls
-  pub done : (opening rule size) .number ≡ 0
+  -- a refused list leaves all as it was
+  pub refused : (carryNumber rule size calls answers ≡ 0 → ⊥) → (r ≡ notOpened (carryNumber rule size calls answers)) × (t′ ≡ t) × (answers′ ≡ answers) × (room′ ≡ room)
+  -- else the calls are made on a fresh book
+  pub done : carryNumber rule size calls answers ≡ 0
       → let k = carried (countCalls calls answers) calls ((opening rule size) .head) t room in
       (r ≡ record { number = 0; head = k .head }) × (t′ ≡ k .table) × (answers′ ≡ k .numbers ++ drop (countCalls calls answers) answers) × (room′ ≡ k .room)
   -- and demand 3 holds of what was left
-  pub demand : (opening rule size) .number ≡ 0
+  pub demand : carryNumber rule size calls answers ≡ 0
       → let cs = callsIn (countCalls calls answers) calls ((opening rule size) .head) t room in
       let j = callsOn ((opening rule size) .head) t cs in
       (r .head ≡ j .head) × (t′ ≡ j .table) × Demand3 rule size t cs j

@@ -1,17 +1,20 @@
 // A list of calls carried out on a fresh book, from a lent slice of numbers.
 ghost use mathlib.Core.Path.{_≡_};
+ghost use mathlib.Core.Bool.{false};
 ghost use Prim.Native.Nat.{_≤_, _+_, _*_, min};
-ghost use lib.ListN.{length, drop};
-ghost use Rattle.journal.specs.Carried.{callSize, reportOf, callIn, Makes, MakesAll, CarriesOut};
+ghost use lib.ListN.{length, getD, drop};
+ghost use Rattle.book.specs.Transfer.{mostAge};
+ghost use Rattle.journal.specs.Carried.{callSize, reportOf, transferIn, reportIn, callIn, ageOff, agesOff, Makes, MakesAll, CarriesOut};
 use book::Head;
+use book::MOST_AGE;
 use book::Opened;
 use book::Report;
 use book::Reported;
 use book::Transfer;
 use book::opening;
 
-// A call is five numbers: its kind and its arguments.
-pub const CALL_SIZE: usize = 5;
+// A call is six numbers: its kind and its arguments.
+pub const CALL_SIZE: usize = 6;
 
 const TRANSFER: u32 = 0;
 
@@ -32,24 +35,36 @@ fn report_of(kind: u32, a: u32, b: u32, c: u32) -> Report
     Report::Whole
 }
 
-// The call in the five numbers from `at` on.
-fn call_at(head: Head, table: &mut [u32], calls: &[u32], at: usize, room: &mut [u32]) -> Reported
+// The transfer in the six numbers from `at` on.
+fn transfer_at(calls: &[u32], at: usize) -> Transfer
+    requires { ⌜ (at + callSize ≤ length (now calls)) × (getD (now calls) (at + 5) 0 ≤ mostAge) ⌝ }
+    ensures { λ r. ⌜ r ≡ transferIn (drop at (now (calls .entry))) ⌝ }
+{
+    Transfer {
+        source: calls[at + 1],
+        destination: calls[at + 2],
+        minute: calls[at + 3],
+        weight: calls[at + 4],
+        age: calls[at + 5] as u16,
+    }
+}
+
+// The report in the six numbers from `at` on.
+fn report_at(calls: &[u32], at: usize) -> Report
     requires { ⌜ at + callSize ≤ length (now calls) ⌝ }
+    ensures { λ r. ⌜ r ≡ reportIn (drop at (now (calls .entry))) ⌝ }
+{
+    report_of(calls[at], calls[at + 1], calls[at + 2], calls[at + 3])
+}
+
+// The call in the six numbers from `at` on.
+fn call_at(head: Head, table: &mut [u32], calls: &[u32], at: usize, room: &mut [u32]) -> Reported
+    requires { ⌜ (at + callSize ≤ length (now calls)) × (ageOff (drop at (now calls)) ≡ false) ⌝ }
     ensures { λ r. ⌜ Makes head (callIn (drop at (now (calls .entry))) (now (room .entry)))
         (now (table .entry)) (now (room .entry)) (now (table .exit)) (now (room .exit)) r ⌝ }
 {
-    let kind = calls[at];
-    let a = calls[at + 1];
-    let b = calls[at + 2];
-    let c = calls[at + 3];
-    let d = calls[at + 4];
-    if kind == TRANSFER {
-        let x = Transfer {
-            source: a,
-            destination: b,
-            minute: c,
-            weight: d,
-        };
+    if calls[at] == TRANSFER {
+        let x = transfer_at(calls, at);
         let r = posting::transfer(head, table, x);
         let next = r.head;
         return Reported {
@@ -57,8 +72,34 @@ fn call_at(head: Head, table: &mut [u32], calls: &[u32], at: usize, room: &mut [
             head: next,
         };
     }
-    let asked = report_of(kind, a, b, c);
+    let asked = report_at(calls, at);
     reports::report(head, table, asked, room)
+}
+
+// Whether the call in the six numbers from `at` on is a transfer with an age that is no number of 16 bits.
+fn age_off(calls: &[u32], at: usize) -> bool
+    requires { ⌜ at + callSize ≤ length (now calls) ⌝ }
+    ensures { λ r. ⌜ r ≡ ageOff (drop at (now (calls .entry))) ⌝ }
+{
+    if calls[at] != TRANSFER {
+        return false;
+    }
+    calls[at + 5] > MOST_AGE
+}
+
+// Whether one of the first n calls is such a transfer.
+fn ages_off(n: usize, calls: &[u32]) -> bool
+    requires { ⌜ callSize * n ≤ length (now calls) ⌝ }
+    ensures { λ r. ⌜ r ≡ agesOff n (now (calls .entry)) ⌝ }
+{
+    let mut i: usize = 0;
+    while i < n {
+        if age_off(calls, CALL_SIZE * i) {
+            return true;
+        }
+        i += 1;
+    }
+    false
 }
 
 // The first n calls in turn; the number of each goes to `answers`.
@@ -70,7 +111,7 @@ fn call_all(
     answers: &mut [u32],
     room: &mut [u32],
 ) -> Head
-    requires { ⌜ (callSize * n ≤ length (now calls)) × (n ≤ length (now answers)) ⌝ }
+    requires { ⌜ (callSize * n ≤ length (now calls)) × (n ≤ length (now answers)) × (agesOff n (now calls) ≡ false) ⌝ }
     ensures { λ r. ⌜ MakesAll n (now (calls .entry)) fresh (now (table .entry)) (now (answers .entry)) (now (room .entry))
         (now (table .exit)) (now (answers .exit)) (now (room .exit)) r ⌝ }
 {
@@ -95,7 +136,8 @@ fn least(a: usize, b: usize) -> usize
     b
 }
 
-// Opens a book and carries out the calls, as many as there are numbers and room for answers.
+// Opens a book and carries out the calls, as many as there are numbers and room for answers. A list with an age that is none is refused
+// before any of its calls is made.
 pub fn carry_out(
     rule: u32,
     vessels: u32,
@@ -112,6 +154,9 @@ pub fn carry_out(
         return opened;
     }
     let n = least(calls.len() / CALL_SIZE, answers.len());
+    if ages_off(n, calls) {
+        return opening::refused(refusal::AGE_OVER);
+    }
     let fresh = opened.head;
     let head = call_all(fresh, n, table, calls, answers, room);
     Opened {

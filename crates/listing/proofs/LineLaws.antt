@@ -8,13 +8,13 @@ use mathlib.Core.Path.{_≡_, refl, sym, ap, _∙_}
 use mathlib.Core.List.{List, [], _++_}
 use lib.ListN.{length, drop, length-append, drop-of-length-le}
 use lib.Seq.{sets, drop-cons, sets-eq, length-sets}
+use Rattle.refusal.proofs.Numbers.{not-zero}
 use Rattle.table.specs.declared.Piece.{Piece}
 use Rattle.table.specs.Pieces.{noPiece}
 use Rattle.table.specs.Table.{piecesOf, pieceIn}
 use Rattle.table.proofs.Table.{length-pieces}
 use Rattle.fields.proofs.PutLaws.{put-then}
 use Rattle.run.specs.declared.Ran.{Ran}
-use Rattle.fields.proofs.CheckLaws.{not-zero}
 use Rattle.text.specs.Text.{Put}
 use Rattle.listing.specs.Listing.{Listed, pieceLine, pieceLines, stoppedLine, lastLine, refusedLine, bookText, listingText, lastSize, refusedSize, roomFor}
 

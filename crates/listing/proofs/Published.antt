@@ -55,12 +55,19 @@ line4 = 0x30 ∷ 0x20 ∷ 0x31 ∷ 0x20 ∷ 0x31 ∷ 0x20 ∷ 0x31 ∷ 0x0a ∷ 
 abbrev lines : List ℕ
 lines = line0 ++ line1 ++ line2 ++ line3 ++ line4
 
--- the vessels' names, A to C, and the six movements
+-- the vessels' names, A to C, and the six movements, each of age 0
 abbrev names : List ℕ
 names = 65 ∷ 0 ∷ 0 ∷ 0 ∷ 0 ∷ 0 ∷ 0 ∷ 0 ∷ 66 ∷ 0 ∷ 0 ∷ 0 ∷ 0 ∷ 0 ∷ 0 ∷ 0 ∷ 67 ∷ 0 ∷ 0 ∷ 0 ∷ 0 ∷ 0 ∷ 0 ∷ 0 ∷ []
 
 abbrev six : List ℕ
-six = 1 ∷ 2 ∷ 1 ∷ 3 ∷ 2 ∷ 0 ∷ 3 ∷ 5 ∷ 0 ∷ 1 ∷ 4 ∷ 3 ∷ 1 ∷ 2 ∷ 5 ∷ 7 ∷ 2 ∷ 1 ∷ 7 ∷ 2 ∷ 2 ∷ 0 ∷ 8 ∷ 1 ∷ []
+six =
+    1 ∷ 2 ∷ 1 ∷ 3 ∷ 0
+    ∷ 2 ∷ 0 ∷ 3 ∷ 5 ∷ 0
+    ∷ 0 ∷ 1 ∷ 4 ∷ 3 ∷ 0
+    ∷ 1 ∷ 2 ∷ 5 ∷ 7 ∷ 0
+    ∷ 2 ∷ 1 ∷ 7 ∷ 2 ∷ 0
+    ∷ 2 ∷ 0 ∷ 8 ∷ 1 ∷ 0
+    ∷ []
 
 -- the table that is lent: eight places, and no zeros in it
 pub published-whole : sheetListing (sheetOf 2 3 names six) (replicate 32 9) ≡ lines

@@ -6,13 +6,13 @@ use Prim.Native.Nat.{ℕ, zero, suc, _*_, _≤_}
 use native.Mathlib.Omega.{arith}
 use lib.ListN.{length}
 use Rattle.refusal.specs.Numbers.{ifZero}
+use Rattle.refusal.proofs.Numbers.{not-zero}
 use Rattle.table.specs.Table.{mostPlaces, piecesOf, placesOf}
 use Rattle.table.proofs.Table.{places-fit}
 use Rattle.book.specs.Head.{emptyHead}
 use Rattle.book.proofs.Known.{AddsUp, adds-up}
 use Rattle.run.specs.declared.Ran.{Ran}
 use Rattle.run.specs.Run.{Running, Gives, ended, runNumber, running}
-use Rattle.fields.proofs.CheckLaws.{not-zero}
 use Rattle.run.proofs.RunTheorem.{run-theorem}
 use Rattle.listing.specs.Listing.{Listed, listingText, bookText, refusedLine, listingOf, sheetListing, roomFor, listingRoom}
 

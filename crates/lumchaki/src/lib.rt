@@ -34,8 +34,9 @@ pub extern "C" fn lumchaki_transfer(
     destination: u32,
     minute: u32,
     weight: u32,
+    age: u16,
 ) -> Transferred
-    ensures { λ r. ⌜ Posts head (transferOf source destination minute weight) (now (table .entry)) (now (table .exit)) r ⌝ }
+    ensures { λ r. ⌜ Posts head (transferOf source destination minute weight age) (now (table .entry)) (now (table .exit)) r ⌝ }
 {
     posting::transfer(
         head,
@@ -45,6 +46,7 @@ pub extern "C" fn lumchaki_transfer(
             destination: destination,
             minute: minute,
             weight: weight,
+            age: age,
         },
     )
 }

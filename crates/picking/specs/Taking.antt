@@ -54,7 +54,7 @@ takeUpTo pick (suc n) want ps = takeNext pick (takeUpTo pick n) want ps (eqb wan
 unfoldable pub taken : ℕ → Move → List Piece → Taken
 taken rule x ps = takeUpTo (select (wins rule) (x .source)) (length ps) (x .weight) ps
 
--- "If s runs out, the missing weight is born: a piece (d, s, t, missing) joins the end."
+-- "If s runs out, the missing weight is born: a piece (d, s, t, missing) joins the end", with the birth minute of the move in place of t.
 abbrev pub newborn : Move → ℕ → Piece
 newborn x w = record { holder = x .destination; origin = x .source; birth = x .birth; weight = w }
 

@@ -18,6 +18,7 @@ use Rattle.picking.specs.Taking.{Taken, taken, handed}
 use Rattle.moving.specs.declared.Applied.{Applied}
 use Rattle.moving.specs.Applied.{liftedPlaces, full, refused, accepted, applied, tableLeft, Ready, Moves}
 use Rattle.refusal.specs.Numbers.{_if_, orElse, first, ifZero}
+use Rattle.refusal.proofs.Numbers.{not-zero}
 use Rattle.book.specs.declared.Head.{Head}
 use Rattle.book.specs.declared.Transfer.{Transfer}
 use Rattle.book.specs.declared.Transferred.{Transferred}
@@ -77,11 +78,7 @@ module _ (h : Head) (t : List ℕ) (x : Transfer) (keys spare lifted : List ℕ)
 
   -- refused by one of 5 to 10
   pub posts-checked : (n : ℕ) → n ≡ first (transferChecks (ofHead h) x) → (n ≡ 0 → ⊥) → (z : Transferred) → z ≡ refusedWith h n → Posts h x t t z
-  posts-checked n en nz z ez = posts-refusal h t x n z (number-parts ∙ rw (← (en ∙ checks-same h t work-known x)) (go n nz)) nz ez
-    where
-      go : (n : ℕ) → (n ≡ 0 → ⊥) → ifZero n (cond full-now 11 0) n ≡ n
-      go zero nz = absurd (nz refl)
-      go (suc n) nz = refl
+  posts-checked n en nz z ez = posts-refusal h t x n z (number-parts ∙ rw (← (en ∙ checks-same h t work-known x)) (sym (not-zero n _ n nz))) nz ez
 
   pub ready : (n : ℕ) → n ≡ first (transferChecks (ofHead h) x) → n ≡ 0 → Workable h t keys spare lifted × (first (transferChecks (ofHead h) x) ≡ 0)
   ready n en z = (w, sym en ∙ z)
@@ -92,6 +89,10 @@ module _ (h : Head) (t : List ℕ) (x : Transfer) (keys spare lifted : List ℕ)
 
     fitting : Fit (ofBook b) x
     fitting = fit _ x passes
+
+    -- what the move asks
+    pub in-time : x .age ≤ x .minute
+    in-time = fitting .milled
 
     decided : numberOf h t (post x) ≡ cond full-now 11 0
     decided = number-parts ∙ rw passes

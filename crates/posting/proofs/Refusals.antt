@@ -1,4 +1,4 @@
--- The last three returns of the checks of a transfer: the balance of the destination was read off the head, and 5 to 8 do not apply.
+-- The last three returns of the checks of a transfer: the balance of the destination was read off the head, and 5 to 8 and 21 do not apply.
 -- Assumes nothing.
 use mathlib.Core.Path.{_≡_}
 use mathlib.Core.Logic.{_≢_}
@@ -11,16 +11,16 @@ use Rattle.book.specs.Head.{balanceAt}
 use Rattle.book.specs.Transfer.{ofHead, transferChecks}
 
 module _ (h : Head) (x : Transfer) (y : ℕ) (ey : y ≡ balanceAt h (x .destination)) (source-in : x .source < h .vessels) (destination-in : x .destination < h .vessels)
-    (apart : x .source ≢ x .destination) (weighty : x .weight ≢ 0) (forward : h .last ≤ x .minute) where
+    (apart : x .source ≢ x .destination) (weighty : x .weight ≢ 0) (forward : h .last ≤ x .minute) (milled : x .age ≤ x .minute) where
   pub overfull : TOP < y + x .weight → 9 ≡ first (transferChecks (ofHead h) x)
   unfolding transferChecks
-  overfull q = rw (lt-leb _ _ source-in, lt-leb _ _ destination-in, ne-eqb _ _ apart, ne-eqb _ _ weighty, le-ltb _ _ forward, ← ey, lt-ltb _ _ q)
+  overfull q = rw (lt-leb _ _ source-in, lt-leb _ _ destination-in, ne-eqb _ _ apart, ne-eqb _ _ weighty, le-ltb _ _ forward, le-ltb _ _ milled, ← ey, lt-ltb _ _ q)
 
   module _ (room : y + x .weight ≤ TOP) where
     pub tally-full : h .accepted ≡ TOP → 10 ≡ first (transferChecks (ofHead h) x)
     unfolding transferChecks
-    tally-full q = rw (lt-leb _ _ source-in, lt-leb _ _ destination-in, ne-eqb _ _ apart, ne-eqb _ _ weighty, le-ltb _ _ forward, ← ey, le-ltb _ _ room, eq-eqb _ _ q)
+    tally-full q = rw (lt-leb _ _ source-in, lt-leb _ _ destination-in, ne-eqb _ _ apart, ne-eqb _ _ weighty, le-ltb _ _ forward, le-ltb _ _ milled, ← ey, le-ltb _ _ room, eq-eqb _ _ q)
 
     pub unrefused : h .accepted ≢ TOP → 0 ≡ first (transferChecks (ofHead h) x)
     unfolding transferChecks
-    unrefused q = rw (lt-leb _ _ source-in, lt-leb _ _ destination-in, ne-eqb _ _ apart, ne-eqb _ _ weighty, le-ltb _ _ forward, ← ey, le-ltb _ _ room, ne-eqb _ _ q)
+    unrefused q = rw (lt-leb _ _ source-in, lt-leb _ _ destination-in, ne-eqb _ _ apart, ne-eqb _ _ weighty, le-ltb _ _ forward, le-ltb _ _ milled, ← ey, le-ltb _ _ room, ne-eqb _ _ q)

@@ -14,7 +14,7 @@ use book::balances;
 use moving::Applied;
 use picking::Move;
 
-// The first of checks 5 to 10 that applies, or 0.
+// The first of checks 5 to 10 and 21 that applies, or 0.
 fn first_refusal(head: Head, x: Transfer) -> u32
     requires { ⌜ head .vessels ≤ mostVessels ⌝ }
     ensures { λ r. ⌜ r ≡ first (transferChecks (ofHead head) x) ⌝ }
@@ -34,6 +34,9 @@ fn first_refusal(head: Head, x: Transfer) -> u32
     if x.minute < head.last {
         return refusal::CLOCK_BACK;
     }
+    if x.minute < x.age as u32 {
+        return refusal::BEFORE_TIME;
+    }
     let balance = balances::balance_at(head, x.destination);
     if (refusal::TOP as u64) < (balance as u64) + (x.weight as u64) {
         return refusal::OVERFULL;
@@ -44,14 +47,15 @@ fn first_refusal(head: Head, x: Transfer) -> u32
     0
 }
 
-// The move of pieces that a transfer is: what is born has its minute.
+// The move of pieces that a transfer is: what is born was milled its age before its minute.
 fn move_of(x: Transfer) -> Move
+    requires { ⌜ x .age ≤ x .minute ⌝ }
     ensures { λ r. ⌜ r ≡ moveOf x ⌝ }
 {
     Move {
         source: x.source,
         destination: x.destination,
-        birth: x.minute,
+        birth: x.minute - x.age as u32,
         weight: x.weight,
     }
 }
@@ -104,7 +108,7 @@ fn conclude(head: Head, x: Transfer, moved: Applied) -> Transferred
     }
 }
 
-// A transfer that has passed checks 5 to 10, on a book that is known to add up.
+// A transfer that has passed checks 5 to 10 and 21, on a book that is known to add up.
 fn post_checked(
     head: Head,
     table: &mut [u32],
@@ -143,7 +147,7 @@ pub fn transfer_known(
     post_checked(head, table, x, keys, spare, lifted)
 }
 
-// A transfer of weight from source to destination at a minute.
+// A transfer of weight from source to destination at a minute, with the age of what is born.
 pub fn transfer(head: Head, table: &mut [u32], x: Transfer) -> Transferred
     ensures { λ r. ⌜ Posts head x (now (table .entry)) (now (table .exit)) r ⌝ }
 {

@@ -1,5 +1,5 @@
-// The refusal numbers of document 01, "Numbers and their words". 0 is acceptance.
-// The word that document 01 gives a number stands behind it.
+// The refusal numbers of document 01, "Numbers and their words", and of the requests of document 02. 0 is acceptance.
+// The word that they give a number stands behind it.
 
 pub const TABLE_SHORT: u32 = 1; // no tray
 
@@ -35,11 +35,13 @@ pub const LAYOUT: u32 = 16; // layout
 
 pub const NAME: u32 = 17; // name
 
-pub const FILLER: u32 = 18; // filler
+pub const AGE_OVER: u32 = 18; // filler
 
 pub const OUTPUT_SHORT: u32 = 19; // short paper
 
 pub const PAST_END: u32 = 20; // past the end
+
+pub const BEFORE_TIME: u32 = 21; // milled before time
 
 // The largest number of 32 bits: no weight, minute or count is above it.
 pub const TOP: u32 = 4294967295;

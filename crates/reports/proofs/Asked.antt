@@ -10,7 +10,7 @@ use Rattle.refusal.specs.Numbers.{first}
 use Rattle.book.specs.declared.Head.{Head}
 use Rattle.book.specs.declared.Reported.{Reported}
 use Rattle.book.specs.Head.{Sized}
-use Rattle.book.specs.Calls.{ask}
+use Rattle.book.specs.Calls.{ask, meaning}
 use Rattle.book.specs.Memory.{outcome, bookChecks, numberOf, callOn}
 use Rattle.book.specs.Reports.{reportRow, reportChecks, onto}
 use Rattle.book.specs.declared.Report.{Report}
@@ -54,6 +54,6 @@ pub asked-nothing : (h : Head) (t : List ℕ) (q : Report) (room : List ℕ) →
 unfolding callOn
 asked-nothing h t q room = go (numberOf h t (ask q room)) refl
   where
-    go : (n : ℕ) → numberOf h t (ask q room) ≡ n → ((outcome h t (ask q room) n) .head ≡ h) × ((outcome h t (ask q room) n) .table ≡ t)
+    go : (n : ℕ) → numberOf h t (ask q room) ≡ n → ((outcome h t (meaning (ask q room)) n) .head ≡ h) × ((outcome h t (meaning (ask q room)) n) .table ≡ t)
     go zero e = (sym (adds-head h t (adds-up h t (book-passed h t (passed-book h t (ask q room) e) .1))), refl)
     go (suc n) e = (refl, refl)

@@ -10,24 +10,25 @@ use lib.Dec.{ltb}
 use lib.ListN.{length, getD, take, drop, take-append-drop, length-take, length-drop}
 use lib.Seq.{drop-drop, take-append-le}
 use Rattle.refusal.specs.Numbers.{first}
+use Rattle.refusal.proofs.Numbers.{neither, passes}
 use Rattle.fields.specs.declared.entries.Entry.{Entry}
 use Rattle.book.specs.Head.{same}
+use Rattle.book.specs.Transfer.{mostAge}
 use Rattle.book.proofs.HeadLaws.{same-eq}
 use Rattle.fields.specs.Layout.{nameSize, headerSize, mark, markSize, ruleAt, vesselsAt, movementsAt, namesAt, entriesAt, lengthAt, entriesStart, sheetSize, movementsOff}
 use Rattle.names.specs.Names.{namesIn, namesOff}
-use Rattle.fields.specs.Movements.{givenSize, entrySize, noEntry, givenIn, entryIn, entriesGiven, entriesBytes, entriesChecks, numbersIn}
+use Rattle.fields.specs.Movements.{givenSize, entrySize, noEntry, givenIn, entryIn, entriesGiven, entriesBytes, givenChecks, entriesChecks, numbersIn}
 use Rattle.sheet.specs.Sheet.{entriesRead, ruleOf, vesselsOf, movementsOf, noSheet, readNumber}
 use Rattle.sheet.specs.Answers.{movementAnswer, movementAt}
 use Rattle.writing.specs.Writing.{countGiven, headerBytes, sheetOf, givenOff, countChecks, contentChecks, roomCheck, writeNumber}
 use Rattle.roundtrip.specs.Rewriting.{namesOf, numbersOf}
-use Rattle.fields.proofs.CheckLaws.{neither, passes}
 use Rattle.fields.proofs.GroupLaws.{group-at, length-groups, groups-append}
 use Rattle.sheet.proofs.HeaderLaws.{out-none}
 use Rattle.sheet.proofs.ReadLaws.{Laid, good, good-names, good-entries}
 use Rattle.sheet.proofs.AnswerLaws.{entry-of}
-use Rattle.writing.proofs.WriteLaws.{named-entries}
-use Rattle.fields.proofs.BackLaws.{Below, below-drop, back-at, back-movements, back-given}
-use Rattle.fields.proofs.EntryLaws.{all-sound}
+use Rattle.writing.proofs.WriteLaws.{named-movements}
+use Rattle.fields.proofs.BackLaws.{Below, below-drop, ages-read, back-at, back-movements, back-given}
+use Rattle.fields.proofs.EntryLaws.{ages-fit}
 
 length-numbers : (es : List Entry) → length (numbersIn es) ≡ givenSize * length es
 unfolding flatMap
@@ -66,7 +67,10 @@ module _ (s : List ℕ) (read : readNumber s ≡ 0) (bytes : Below 256 s) where
   same-count = omega (arith, numbers)
 
   same-entries : entriesGiven movements (numbersOf s) ≡ es
-  same-entries = ap (λ (n : ℕ). entriesGiven n (numbersOf s)) (sym count) ∙ back-given vessels es (all-sound vessels es (good-entries s read))
+  same-entries = ap (λ (n : ℕ). entriesGiven n (numbersOf s)) (sym count) ∙ back-given es
+
+  ages : (i : ℕ) → i < length es → getD es i noEntry .age ≤ mostAge
+  ages i h = ages-read movements (drop (entriesStart vessels) s) (below-drop 256 (entriesStart vessels) s bytes) i (rw (← count) h)
 
   -- from the end to the front
   back-entries : entriesBytes es ≡ drop (entriesStart vessels) s
@@ -128,13 +132,14 @@ module _ (s : List ℕ) (read : readNumber s ≡ 0) (bytes : Below 256 s) where
   unfolding writeNumber
   asks-room room =
       let names : namesOff (namesIn vessels (namesOf s)) ≡ false = rw (← same-names) (good-names s read) in
-      let entries : 0 ≡ first (entriesChecks vessels (entriesGiven movements (numbersOf s))) = rw same-entries (sym (good-entries s read)) in
+      let entries : 0 ≡ first (entriesChecks (givenChecks vessels) (entriesGiven movements (numbersOf s))) =
+      rw same-entries (sym (ages-fit vessels es ages ∙ good-entries s read)) in
       let left = roomCheck vessels movements room ∷ [] in
       sym
       (passes (countChecks (ruleOf s) vessels (namesOf s) (numbersOf s)) (contentChecks vessels (countGiven (numbersOf s)) (namesOf s) (numbersOf s) room)
       tt 0 (first left) counts-good refl
       (rw (same-count, names)
-      (passes (entriesChecks vessels (entriesGiven movements (numbersOf s))) left (named-entries vessels (entriesGiven movements (numbersOf s))) 0 (first left) entries refl refl)))
+      (passes (entriesChecks (givenChecks vessels) (entriesGiven movements (numbersOf s))) left (named-movements vessels (entriesGiven movements (numbersOf s))) 0 (first left) entries refl refl)))
 
   pub accepts : (room : ℕ) → length s ≤ room → writeNumber (ruleOf s) vessels (namesOf s) (numbersOf s) room ≡ 0
   accepts room h = asks-room room ∙ rw (le-ltb room (sheetSize vessels movements) (omega (arith, laid .size)))

@@ -9,9 +9,9 @@ use lib.Dec.{ltb}
 use lib.ListN.{length, take, drop, replicate, length-replicate}
 use lib.Seq.{sets, sets-eq, length-sets, take-at}
 use Rattle.refusal.specs.Numbers.{_if_}
+use Rattle.refusal.proofs.Numbers.{not-zero}
 use Rattle.fields.specs.Movements.{givenSize}
 use Rattle.fields.specs.Layout.{headerSize, nameStart, sheetSize, mostMovements}
-use Rattle.fields.proofs.CheckLaws.{not-zero}
 use Rattle.fields.proofs.BackLaws.{Below}
 use Rattle.sheet.specs.declared.answer.Reading.{Reading}
 use Rattle.sheet.specs.Sheet.{ruleOf, vesselsOf, movementsOf, readNumber}

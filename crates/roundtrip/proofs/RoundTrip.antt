@@ -1,7 +1,7 @@
 -- THE ROUND TRIP OF A SHEET, in three theorems over the definitions that the contracts cite.
--- `written-reads`: reading what was written yields what was given, the rule, the counts, every movement and every name.
+-- `written-reads`: reading what was written yields what was given, the rule, the counts, every movement with its age and every name.
 -- `writer-leaves`: the sheet lies at the start of the slice that the writer leaves.
--- `read-rewrites`: writing what was read is accepted and yields the same bytes.
+-- `read-rewrites`: writing what was read is accepted, whatever its ages are, and yields the same bytes.
 -- `rewrite` (src/lib.rt) has the last of them in its contract, of running code, which knows of its bytes what a byte is.
 -- Each byte of a `u8` slice is below 256, and each number of a `u32` slice below 4,294,967,296: `Below` says so of a list. Assumes nothing.
 use Prim.Native.Nat.{ℕ, _*_, _<_, _≤_}

@@ -14,13 +14,15 @@ use Rattle.sheet.specs.Sheet.{vesselsOf, movementsOf, entriesRead}
 use Rattle.sheet.specs.Answers.{movementAt}
 use Rattle.roundtrip.specs.Rewriting.{movementNumbers}
 
--- four numbers put one behind the other
-pub four-put : (l : List ℕ) (at a b c d : ℕ) → set (set (set (set l at a) (at + 1) b) (at + 2) c) (at + 3) d ≡ sets l at (a ∷ b ∷ c ∷ d ∷ [])
-four-put l at a b c d =
+-- five numbers put one behind the other
+pub five-put : (l : List ℕ) (at a b c d e : ℕ)
+    → set (set (set (set (set l at a) (at + 1) b) (at + 2) c) (at + 3) d) (at + 4) e ≡ sets l at (a ∷ b ∷ c ∷ d ∷ e ∷ [])
+five-put l at a b c d e =
     let one : at + 1 ≡ suc at = omega arith in
     let two : at + 2 ≡ suc (suc at) = omega arith in
     let three : at + 3 ≡ suc (suc (suc at)) = omega arith in
-    simp (one, two, three)
+    let four : at + 4 ≡ suc (suc (suc (suc at))) = omega arith in
+    simp (one, two, three, four)
 
 -- the loop that takes the numbers of each movement
 module _ (s out goal : List ℕ) (count i : ℕ) (all : count ≡ movementsOf s) where

@@ -9,22 +9,22 @@ use borrow.Author.Tests.{le-ltb, eq-eqb}
 use lib.ListN.{length, getD, take, drop}
 use lib.Seq.{drop-at, drop-drop, take-append-le, getD-drop}
 use Rattle.refusal.specs.Numbers.{first}
+use Rattle.refusal.proofs.Numbers.{passes}
 use Rattle.fields.specs.Bytes.{valueIn, bytesOf}
 use Rattle.fields.specs.Layout.{nameSize, mostMovements, headerSize, mark, markSize, namesAt, entriesAt, lengthAt, entriesStart, sheetSize, movementsOff}
 use Rattle.names.specs.Names.{namesIn}
-use Rattle.fields.specs.Movements.{givenSize, noEntry, givenIn, entriesIn, entriesGiven, entriesBytes}
+use Rattle.fields.specs.Movements.{givenSize, noEntry, givenIn, entriesIn, entriesGiven, entriesBytes, entryChecks, entriesChecks}
 use Rattle.book.specs.Head.{lastRule, mostVessels}
 use Rattle.book.proofs.HeadLaws.{same-refl}
 use Rattle.sheet.specs.Sheet.{entriesRead, namesRead, ruleOf, vesselsOf, movementsOf, noSheet, layoutOff, headerChecks, bodyChecks, readNumber}
 use Rattle.sheet.specs.Answers.{reading, movementAnswer, movementAt, movementNumber, nameBytes, nameNumber}
 use Rattle.writing.specs.Writing.{countGiven, headerBytes, sheetOf, writeNumber}
-use Rattle.fields.proofs.CheckLaws.{passes}
 use Rattle.fields.proofs.GroupLaws.{group-at, groups-append, length-groups}
 use Rattle.sheet.proofs.AnswerLaws.{read-number, asked-inside, entry-of, name-of}
 use Rattle.sheet.proofs.HeaderLaws.{real-length, out-none, out-fields}
 use Rattle.writing.proofs.SheetPut.{length-header}
 use Rattle.writing.proofs.WriteLaws.{Counted, Content, write-counted, write-content, length-sheet}
-use Rattle.fields.proofs.EntryLaws.{all-sound}
+use Rattle.fields.proofs.EntryLaws.{all-sound, ages-fit}
 use Rattle.fields.proofs.BackLaws.{Below, back-number, back-entries, Fit}
 
 -- The numbers of a header come back from its bytes.
@@ -89,7 +89,7 @@ module _ (rule vessels room : ℕ) (names numbers : List ℕ) (accepted : writeN
       record {
         source = omega arith;
         destination = omega arith;
-        filler = omega arith;
+        age = omega arith;
         minute = rw (is, getD-drop) (small (givenSize * i + 2));
         weight = rw (is, getD-drop) (small (givenSize * i + 3));
       }
@@ -126,7 +126,10 @@ module _ (rule vessels room : ℕ) (names numbers : List ℕ) (accepted : writeN
       (out-none rule vessels 0 15 16 (movementsOff count) (layoutOff vessels count s) (sym (counted .opens)) refl false (sym (counted .inside)) refl false (sym laid-out) refl)
 
   good-body : 0 ≡ first (bodyChecks (vesselsOf s) (movementsOf s) s)
-  good-body = rw (header .held, header .moved, same-names, back, content .named) (sym (content .moved))
+  good-body =
+      let es = entriesGiven count numbers in
+      let read : first (entriesChecks (entryChecks vessels) es) ≡ 0 = sym (ages-fit vessels es (λ i h. all-sound vessels es (content .moved) i h .age)) ∙ content .moved in
+      rw (header .held, header .moved, same-names, back, content .named) (sym read)
 
   pub accepts : readNumber s ≡ 0
   unfolding readNumber

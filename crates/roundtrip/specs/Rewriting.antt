@@ -18,7 +18,7 @@ abbrev pub numbersOf : List ℕ → List ℕ
 numbersOf s = numbersIn (entriesRead s)
 
 abbrev pub movementNumbers : Movement → List ℕ
-movementNumbers m = m .source ∷ m .destination ∷ m .minute ∷ m .weight ∷ []
+movementNumbers m = m .source ∷ m .destination ∷ m .minute ∷ m .weight ∷ m .age ∷ []
 
 -- "Rewriting what was read yields the same bytes": the sheet's own number, then 19, and else the sheet's own bytes with those of the slice behind them.
 abbrev pub rewriteNumber : List ℕ → ℕ → ℕ

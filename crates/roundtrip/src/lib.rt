@@ -12,7 +12,7 @@ use fields::layout::MOST_MOVEMENTS;
 use fields::layout::NAME_SIZE;
 use sheet::answer::Movement;
 
-// Puts the four numbers of a movement from `at` on.
+// Puts the five numbers of a movement from `at` on.
 fn put_movement(numbers: &mut [u32], at: usize, m: Movement)
     requires { ⌜ at + givenSize ≤ length (now numbers) ⌝ }
     ensures { λ _. ⌜ now (numbers .exit) ≡ sets (now (numbers .entry)) at (movementNumbers m) ⌝ }
@@ -21,6 +21,7 @@ fn put_movement(numbers: &mut [u32], at: usize, m: Movement)
     numbers[at + 1] = m.destination;
     numbers[at + 2] = m.minute;
     numbers[at + 3] = m.weight;
+    numbers[at + 4] = m.age as u32;
 }
 
 // Puts the numbers of all movements of a sheet that reads well at the front.

@@ -9,6 +9,7 @@ use lib.ListN.{length, drop, drop-of-length-le}
 use lib.Seq.{drop-drop}
 use borrow.Author.Tests.{lt-ltb, le-ltb}
 use Rattle.refusal.specs.Numbers.{first, ifZero}
+use Rattle.refusal.proofs.Numbers.{not-zero}
 use Rattle.table.specs.Table.{mostPlaces}
 use Rattle.moving.specs.Applied.{liftedPlaces}
 use Rattle.book.specs.declared.Head.{Head}
@@ -17,7 +18,7 @@ use Rattle.book.specs.declared.Transferred.{Transferred}
 use Rattle.book.specs.declared.Opened.{Opened}
 use Rattle.book.specs.Head.{emptyHead, openChecks, opening}
 use Rattle.book.specs.Transfer.{transferOf}
-use Rattle.book.specs.Calls.{post, evenOf}
+use Rattle.book.specs.Calls.{post, evenOf, meaning}
 use Rattle.book.specs.Memory.{Outcome, outcome, numberOf, callOn}
 use Rattle.book.proofs.Memory.{refused-memory}
 use Rattle.book.proofs.Known.{known-up}
@@ -31,13 +32,12 @@ use Rattle.fields.specs.Movements.{entrySize}
 use Rattle.fields.specs.Layout.{entriesStart}
 use Rattle.sheet.specs.Sheet.{ruleOf, vesselsOf, movementsOf, readNumber}
 use Rattle.run.specs.Run.{transferIn, transferAt, transfersOf, Running, Gives, ended, goOn, runFrom, runNumber, running, Runnable}
-use Rattle.fields.proofs.CheckLaws.{not-zero}
 use Rattle.sheet.proofs.ReadLaws.{good}
 use Rattle.fields.proofs.GroupLaws.{length-groups, group-at, next-group}
 
 -- the transfer at index i, and those behind it
 abbrev noTransfer : Transfer
-noTransfer = transferOf 0 0 0 0
+noTransfer = transferOf 0 0 0 0 0
 
 pub next-transfer : (s : List ℕ) (i : ℕ) → i < movementsOf s → drop i (transfersOf s) ≡ transferAt s i ∷ drop (i + 1) (transfersOf s)
 next-transfer s i h =
@@ -50,7 +50,7 @@ even-said : (h : Head) (t : List ℕ) (x : Transfer) → (callOn h t (post x)) .
 unfolding callOn
 even-said h t x e = go (numberOf h t (post x)) e
   where
-    go : (n : ℕ) → (outcome h t (post x) n) .number ≡ 0 → (outcome h t (post x) n) .even ≡ evenOf ((outcome h t (post x) n) .answer)
+    go : (n : ℕ) → (outcome h t (meaning (post x)) n) .number ≡ 0 → (outcome h t (meaning (post x)) n) .even ≡ evenOf ((outcome h t (meaning (post x)) n) .answer)
     go zero e = refl
     go (suc n) e = absurd (omega arith)
 
@@ -146,7 +146,7 @@ going-start s m h t k p l able = record {
 
 -- a movement as it is read is the transfer that is made
 pub made-as : (h : Head) (t s : List ℕ) (i : ℕ) (m : Movement) (z : Transferred) (t′ : List ℕ) → m ≡ movementAt s i
-    → Posts h (transferOf (m .source) (m .destination) (m .minute) (m .weight)) t t′ z → Posts h (transferAt s i) t t′ z
+    → Posts h (transferOf (m .source) (m .destination) (m .minute) (m .weight) (m .age)) t t′ z → Posts h (transferAt s i) t t′ z
 made-as h t s i m z t′ e p = rw e at p
 
 -- whether it was even

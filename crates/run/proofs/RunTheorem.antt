@@ -7,6 +7,7 @@ use Prim.Native.Nat.{ℕ, zero, suc, _+_, _-_, _≤_}
 use native.Mathlib.Omega.{arith}
 use lib.ListN.{length, take, replicate}
 use Rattle.refusal.specs.Numbers.{ifZero}
+use Rattle.refusal.proofs.Numbers.{first-zero}
 use Rattle.book.specs.declared.Head.{Head}
 use Rattle.book.specs.declared.Transfer.{Transfer}
 use Rattle.book.specs.Head.{opening}
@@ -17,7 +18,6 @@ use Rattle.book.proofs.Memory.{refused-memory, refused-even}
 use Rattle.book.proofs.Lists.{demand-3}
 use Rattle.sheet.specs.Sheet.{ruleOf, vesselsOf, movementsOf, readNumber}
 use Rattle.run.specs.Run.{transfersOf, Running, goOn, runFrom, runNumber, running}
-use Rattle.fields.proofs.CheckLaws.{first-zero}
 use Rattle.fields.proofs.GroupLaws.{length-groups}
 use Rattle.run.proofs.RunLaws.{opened-well}
 

@@ -22,7 +22,7 @@ use Rattle.sheet.specs.Sheet.{ruleOf, vesselsOf, movementsOf, readNumber}
 
 -- the transfer that the movement in the first bytes is
 abbrev pub transferIn : List ℕ → Transfer
-transferIn l = let e = entryIn l in transferOf (e .source) (e .destination) (e .minute) (e .weight)
+transferIn l = let e = entryIn l in transferOf (e .source) (e .destination) (e .minute) (e .weight) (e .age)
 
 -- the transfers of a sheet, in turn
 abbrev pub transfersOf : List ℕ → List Transfer

@@ -63,6 +63,7 @@ fn make(
         destination: m.destination,
         minute: m.minute,
         weight: m.weight,
+        age: m.age,
     };
     posting::transfer_known(head, table, x, keys, spare, lifted)
 }

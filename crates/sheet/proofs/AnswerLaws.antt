@@ -10,7 +10,7 @@ use lib.Dec.{leb}
 use lib.ListN.{getD, length, take, drop, length-take}
 use lib.Seq.{take-take, drop-drop}
 use Rattle.refusal.specs.Numbers.{Check, _if_, first, ifZero}
-use Rattle.refusal.proofs.Numbers.{passed}
+use Rattle.refusal.proofs.Numbers.{passed, not-zero, first-zero}
 use Rattle.sheet.specs.declared.answer.Reading.{Reading}
 use Rattle.sheet.specs.declared.answer.Movement.{Movement}
 use Rattle.fields.specs.declared.entries.Entry.{Entry}
@@ -19,7 +19,6 @@ use Rattle.names.specs.Names.{letters, shortName}
 use Rattle.fields.specs.Movements.{entrySize, entryIn, noEntry}
 use Rattle.sheet.specs.Sheet.{entriesRead, namesRead, ruleOf, vesselsOf, movementsOf, readNumber}
 use Rattle.sheet.specs.Answers.{headerOf, refusedReading, reading, movementAnswer, askedNumber, movementAt, movementNumber, movementAsked, nameNumber, nameBytes, nameAsked, namePlace}
-use Rattle.fields.proofs.CheckLaws.{not-zero, first-zero}
 use Rattle.fields.proofs.GroupLaws.{group-at}
 use Rattle.sheet.proofs.ReadLaws.{good}
 

@@ -8,13 +8,13 @@ use borrow.Author.Tests.{ltb-false, eq-eqb, ne-eqb, le-ltb}
 use lib.Dec.{eqb, ltb}
 use lib.ListN.{length, take, drop}
 use Rattle.refusal.specs.Numbers.{_if_, first}
+use Rattle.refusal.proofs.Numbers.{neither, refuses, passes}
 use Rattle.book.proofs.HeadLaws.{openable}
 use Rattle.book.specs.Head.{same, mostVessels, openChecks}
 use Rattle.fields.specs.Bytes.{valueIn}
 use Rattle.fields.specs.Layout.{mark, markSize, headerSize, namesAt, entriesAt, lengthAt, sheetSize, entriesStart, leastMovements, mostMovements, movementsOff}
 use Rattle.sheet.specs.Sheet.{ruleOf, vesselsOf, movementsOf, noSheet, layoutOff, fieldChecks, headerChecks}
 use Rattle.fields.proofs.ByteLaws.{is-same}
-use Rattle.fields.proofs.CheckLaws.{neither, refuses, passes}
 
 pub unmarked : (s letters : List ℕ) (r : Bool) → headerSize ≤ length s → letters ≡ mark
     → (r ≡ true → take markSize s ≡ letters) → (take markSize s ≡ letters → r ≡ true) → not r ≡ noSheet s

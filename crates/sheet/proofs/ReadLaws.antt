@@ -8,14 +8,13 @@ use mathlib.Core.List.{List, [], _∷_, _++_}
 use lib.Dec.{eqb}
 use lib.ListN.{length, take, drop}
 use Rattle.refusal.specs.Numbers.{Check, _if_, first}
-use Rattle.refusal.proofs.Numbers.{passed}
+use Rattle.refusal.proofs.Numbers.{passed, neither, same-if, past, refuses, passes, passed-first, passed-second}
 use Rattle.fields.specs.Bytes.{valueIn}
 use Rattle.names.specs.Names.{namesIn, namesOff}
-use Rattle.fields.specs.Movements.{entriesIn, entriesChecks}
+use Rattle.fields.specs.Movements.{entriesIn, entryChecks, entriesChecks}
 use Rattle.book.specs.Head.{openChecks}
 use Rattle.fields.specs.Layout.{leastMovements, mostMovements, headerSize, namesAt, entriesAt, lengthAt, entriesStart, sheetSize, movementsOff, Within}
 use Rattle.sheet.specs.Sheet.{entriesRead, namesRead, ruleOf, vesselsOf, movementsOf, layoutOff, noSheet, headerChecks, bodyChecks, readNumber}
-use Rattle.fields.proofs.CheckLaws.{neither, same-if, past, refuses, passes, passed-first, passed-second}
 use Rattle.fields.proofs.ByteLaws.{rest-part}
 use Rattle.book.proofs.HeadLaws.{Openable, openable}
 use Rattle.sheet.proofs.HeaderLaws.{some-movements}
@@ -74,7 +73,7 @@ module _ (s : List ℕ) (vessels movements : ℕ) (off : Bool) (e : off ≡ name
   pub out-name : off ≡ true → 17 ≡ first (bodyChecks vessels movements s)
   out-name q = rw (← names-say, q)
 
-  pub out-entries : (n : ℕ) → off ≡ false → n ≡ first (entriesChecks vessels (entriesIn movements (take (length s - (entriesStart vessels)) (drop (entriesStart vessels) s))))
+  pub out-entries : (n : ℕ) → off ≡ false → n ≡ first (entriesChecks (entryChecks vessels) (entriesIn movements (take (length s - (entriesStart vessels)) (drop (entriesStart vessels) s))))
       → n ≡ first (bodyChecks vessels movements s)
   out-entries n q en = rw (← names-say, q) (rw rest-part at en)
 
@@ -99,7 +98,7 @@ module _ (s : List ℕ) (z : readNumber s ≡ 0) where
   names = namesOff (namesRead s)
 
   abbrev entries : List Check
-  entries = entriesChecks (vesselsOf s) (entriesRead s)
+  entries = entriesChecks (entryChecks (vesselsOf s)) (entriesRead s)
 
   body : (names ≡ false) × (first entries ≡ 0)
   unfolding readNumber

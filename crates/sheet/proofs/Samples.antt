@@ -1,4 +1,5 @@
 -- Reading's numbers on small sheets, as one table and one theorem: a sheet of three vessels and two movements, then the same with one thing wrong in each row.
+-- And what asking for the movements of that sheet yields.
 -- Assumes nothing.
 use Prim.Native.Nat.{ℕ}
 use mathlib.Core.Path.{_≡_, refl}
@@ -11,8 +12,9 @@ use Rattle.fields.specs.Movements.{entriesChecks}
 use Rattle.fields.specs.Layout.{movementsOff}
 use Rattle.names.specs.Names.{letters, wellFormed}
 use Rattle.sheet.specs.Sheet.{layoutOff, noSheet, readNumber}
+use Rattle.sheet.specs.Answers.{askedNumber, movementAsked}
 
--- The names `A`, `B~` and `C`; from 1 to 2 at minute 1, 3 grams; from 2 to 0 at minute 258, 5 grams.
+-- The names `A`, `B~` and `C`; from 1 to 2 at minute 1, 3 grams, age 0; from 2 to 0 at minute 258, 5 grams, age 259.
 unfoldable pub bytes : List ℕ
 bytes =
     80 ∷ 82 ∷ 79 ∷ 86 ∷ 2 ∷ 0 ∷ 3 ∷ 0 ∷ 2 ∷ 0 ∷ 0 ∷ 0 ∷ 24 ∷ 0 ∷ 0 ∷ 0 ∷ 48 ∷ 0 ∷ 0 ∷ 0 ∷ 72 ∷ 0 ∷ 0 ∷ 0
@@ -20,7 +22,7 @@ bytes =
     ∷ 66 ∷ 126 ∷ 0 ∷ 0 ∷ 0 ∷ 0 ∷ 0 ∷ 0
     ∷ 67 ∷ 0 ∷ 0 ∷ 0 ∷ 0 ∷ 0 ∷ 0 ∷ 0
     ∷ 1 ∷ 2 ∷ 0 ∷ 0 ∷ 1 ∷ 0 ∷ 0 ∷ 0 ∷ 3 ∷ 0 ∷ 0 ∷ 0
-    ∷ 2 ∷ 0 ∷ 0 ∷ 0 ∷ 2 ∷ 1 ∷ 0 ∷ 0 ∷ 5 ∷ 0 ∷ 0 ∷ 0
+    ∷ 2 ∷ 0 ∷ 3 ∷ 1 ∷ 2 ∷ 1 ∷ 0 ∷ 0 ∷ 5 ∷ 0 ∷ 0 ∷ 0
     ∷ []
 
 -- A sheet, and the number that reading it gives.
@@ -62,9 +64,10 @@ samples =
     ∷ sample 17 (set bytes 33 127)
     ∷ sample 17 (set bytes 40 65)
     ∷ sample 0 (set bytes 33 0)
-    -- a filler, in each of its bytes
-    ∷ sample 18 (set bytes 50 1)
-    ∷ sample 18 (set bytes 63 1)
+    -- every age is readable: in its low byte, in its high byte, the largest
+    ∷ sample 0 (set bytes 50 1)
+    ∷ sample 0 (set bytes 51 1)
+    ∷ sample 0 (set (set bytes 62 255) 63 255)
     -- no such source, no such destination
     ∷ sample 5 (set bytes 48 3)
     ∷ sample 5 (set bytes 61 3)
@@ -74,11 +77,21 @@ samples =
     ∷ sample 3 (set (set bytes 6 0) 8 0)
     ∷ sample 15 (set (set bytes 8 0) 12 25)
     ∷ sample 16 (set (set bytes 12 25) 24 0)
-    ∷ sample 17 (set (set bytes 24 0) 50 1)
-    ∷ sample 18 (set (set bytes 48 3) 50 1)
-    ∷ sample 5 (set (set bytes 48 3) 62 1)
+    ∷ sample 17 (set (set bytes 24 0) 48 3)
+    -- an age beside what is wrong changes nothing
+    ∷ sample 17 (set (set bytes 24 0) 51 255)
+    ∷ sample 5 (set (set bytes 48 3) 51 255)
     ∷ []
 
 pub read-samples : map (λ c. readNumber (c .sheet)) samples ≡ map (λ c. c .number) samples
 unfolding sample samples bytes readNumber noSheet movementsOff layoutOff valueIn same groups exists wellFormed letters allZero entriesChecks
 read-samples = refl
+
+-- What asking for the movements of the sample yields: each number from all of its bytes, the low byte first.
+pub asked-samples : map (movementAsked bytes) (0 ∷ 1 ∷ 2 ∷ [])
+    ≡ record { number = 0; source = 1; destination = 2; minute = 1; weight = 3; age = 0 }
+    ∷ record { number = 0; source = 2; destination = 0; minute = 258; weight = 5; age = 259 }
+    ∷ record { number = 20; source = 0; destination = 0; minute = 0; weight = 0; age = 0 }
+    ∷ []
+unfolding bytes askedNumber readNumber noSheet movementsOff layoutOff valueIn same groups exists wellFormed letters allZero entriesChecks
+asked-samples = refl

@@ -23,9 +23,9 @@ refusedReading n = record { number = n; rule = 0; vessels = 0; movements = 0 }
 abbrev pub reading : List ℕ → Reading
 reading s = ifZero (readNumber s) (headerOf s) (refusedReading (readNumber s))
 
--- What asking for a movement answers: a number, and the movement without its filler.
+-- What asking for a movement answers: a number, and the movement.
 abbrev pub movementAnswer : ℕ → Entry → Movement
-movementAnswer n e = record { number = n; source = e .source; destination = e .destination; minute = e .minute; weight = e .weight }
+movementAnswer n e = record { number = n; source = e .source; destination = e .destination; minute = e .minute; weight = e .weight; age = e .age }
 
 -- The movement at an index of a sheet that reads well.
 abbrev pub movementAt : List ℕ → ℕ → Movement
@@ -35,7 +35,7 @@ movementAt s index = movementAnswer 0 (entryIn (drop (entriesStart (vesselsOf s)
 unfoldable pub askedNumber : List ℕ → Check → ℕ
 askedNumber s check = ifZero (readNumber s) (first (check ∷ [])) (readNumber s)
 
--- "Asking for a movement by its index yields s, d, t, q and checks the same, then 20."
+-- "Asking for a movement by its index yields s, d, t, q and checks the same, then 20"; it "yields the age too".
 abbrev pub movementNumber : List ℕ → ℕ → ℕ
 movementNumber s index = askedNumber s (20 if leb (movementsOf s) index)
 

@@ -8,7 +8,7 @@ use Rattle.refusal.specs.Numbers.{Check, _if_, first}
 use Rattle.book.specs.Head.{same, openChecks}
 use Rattle.fields.specs.declared.entries.Entry.{Entry}
 use Rattle.fields.specs.Bytes.{valueIn}
-use Rattle.fields.specs.Movements.{entriesIn, entriesChecks}
+use Rattle.fields.specs.Movements.{entriesIn, entryChecks, entriesChecks}
 use Rattle.fields.specs.Layout.{mark, markSize, headerSize, ruleAt, vesselsAt, movementsAt, namesAt, entriesAt, lengthAt, entriesStart, sheetSize, movementsOff}
 use Rattle.names.specs.Names.{namesIn, namesOff}
 
@@ -45,7 +45,7 @@ headerChecks s = (14 if noSheet s) ∷ fieldChecks (ruleOf s) (vesselsOf s) (mov
 abbrev pub bodyChecks : ℕ → ℕ → List ℕ → List Check
 bodyChecks vessels movements s =
     (17 if namesOff (namesIn vessels (drop headerSize s)))
-    ∷ entriesChecks vessels (entriesIn movements (drop (entriesStart vessels) s))
+    ∷ entriesChecks (entryChecks vessels) (entriesIn movements (drop (entriesStart vessels) s))
 
 -- The names and the movements of a sheet.
 abbrev pub namesRead : List ℕ → List (List ℕ)
@@ -54,7 +54,7 @@ namesRead s = namesIn (vesselsOf s) (drop headerSize s)
 abbrev pub entriesRead : List ℕ → List Entry
 entriesRead s = entriesIn (movementsOf s) (drop (entriesStart (vesselsOf s)) s)
 
--- "checks 14, 2, 3, 15, 16, 17, then each movement in turn for 18 and 5"
+-- "checks 14, 2, 3, 15, 16, 17, then each movement in turn for" 5. Document 02, #101, takes 18 away: "reading never gives number 18 again".
 abbrev pub readChecks : List ℕ → List Check
 readChecks s = headerChecks s ++ bodyChecks (vesselsOf s) (movementsOf s) s
 

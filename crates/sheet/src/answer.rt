@@ -15,4 +15,5 @@ pub struct Movement {
     pub destination: u32,
     pub minute: u32,
     pub weight: u32,
+    pub age: u16,
 }

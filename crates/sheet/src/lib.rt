@@ -68,11 +68,12 @@ pub fn movement_known(sheet: &[u8], index: u32) -> Movement
         destination: e.destination,
         minute: e.minute,
         weight: e.weight,
+        age: e.age as u16,
     }
 }
 
 fn movement_refused(number: u32) -> Movement
-    ensures { λ r. ⌜ r ≡ record { number = number; source = 0; destination = 0; minute = 0; weight = 0 } ⌝ }
+    ensures { λ r. ⌜ r ≡ record { number = number; source = 0; destination = 0; minute = 0; weight = 0; age = 0 } ⌝ }
 {
     Movement {
         number: number,
@@ -80,6 +81,7 @@ fn movement_refused(number: u32) -> Movement
         destination: 0,
         minute: 0,
         weight: 0,
+        age: 0,
     }
 }
 

@@ -98,7 +98,7 @@ module _ (text out₀ out : List ℕ) (at n i : ℕ) (r : Reading text out₀ ou
   pub filled : length out₀ ≤ at → length out₀ ≡ min (length (numbersIn text)) (length out₀)
   filled b = sym (min-eq-right (omega (arith, all-counted)))
 
-sets-behind : (vs l : List ℕ) (x i : ℕ) → sets (x ∷ l) (suc i) vs ≡ x ∷ sets l i vs
+pub sets-behind : (vs l : List ℕ) (x i : ℕ) → sets (x ∷ l) (suc i) vs ≡ x ∷ sets l i vs
 sets-behind [] l x i = refl
 sets-behind (a ∷ vs) l x i = sets-behind vs (set l i a) x (suc i)
 

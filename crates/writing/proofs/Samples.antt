@@ -21,9 +21,9 @@ names =
     ∷ 67 ∷ 0 ∷ 0 ∷ 0 ∷ 0 ∷ 0 ∷ 0 ∷ 0
     ∷ []
 
--- from 1 to 2 at minute 1, 3 grams; from 2 to 0 at minute 258, 5 grams
+-- from 1 to 2 at minute 1, 3 grams, age 0; from 2 to 0 at minute 258, 5 grams, age 259
 pub numbers : List ℕ
-numbers = 1 ∷ 2 ∷ 1 ∷ 3 ∷ 2 ∷ 0 ∷ 258 ∷ 5 ∷ []
+numbers = 1 ∷ 2 ∷ 1 ∷ 3 ∷ 0 ∷ 2 ∷ 0 ∷ 258 ∷ 5 ∷ 259 ∷ []
 
 pub sample-bytes : sheetOf 2 3 names numbers ≡ bytes
 unfolding names numbers bytes sheetOf bytesOf flatMap groups
@@ -50,19 +50,30 @@ samples =
     ∷ given 3 2 65 names numbers 72
     -- each cause of 16 by itself
     ∷ given 16 2 3 (take 23 names) numbers 72
-    ∷ given 16 2 3 names (take 7 numbers) 72
+    ∷ given 16 2 3 names (take 9 numbers) 72
+    ∷ given 16 2 3 names (take 8 numbers) 72
     ∷ given 15 2 3 names [] 72
     ∷ given 17 2 3 (set names 9 127) numbers 72
     ∷ given 17 2 3 (set names 16 65) numbers 72
+    -- an age above 65,535, in either movement; 65,535 is accepted
+    ∷ given 18 2 3 names (set numbers 4 65536) 72
+    ∷ given 18 2 3 names (set numbers 9 65536) 72
+    ∷ given 0 2 3 names (set (set numbers 4 65535) 9 65535) 72
     ∷ given 5 2 3 names (set numbers 0 3) 72
-    ∷ given 5 2 3 names (set numbers 5 3) 72
+    ∷ given 5 2 3 names (set numbers 6 3) 72
     ∷ given 19 2 3 names numbers 71
-    -- two things wrong: the first in document 01's order is given
+    -- two things wrong: the first in the order of documents 01 and 02 is given
     ∷ given 2 4 0 [] numbers 72
     ∷ given 3 2 0 names numbers 72
     ∷ given 16 2 3 (take 23 names) [] 72
     ∷ given 15 2 3 (set names 16 65) [] 72
     ∷ given 17 2 3 (set names 16 65) (set numbers 0 3) 72
+    ∷ given 17 2 3 (set names 16 65) (set numbers 4 65536) 72
+    -- in one movement, and movement by movement
+    ∷ given 18 2 3 names (set (set numbers 0 3) 4 65536) 72
+    ∷ given 5 2 3 names (set (set numbers 0 3) 9 65536) 72
+    ∷ given 18 2 3 names (set (set numbers 4 65536) 5 3) 72
+    ∷ given 18 2 3 names (set numbers 9 65536) 0
     ∷ given 5 2 3 names (set numbers 0 3) 0
     ∷ []
 

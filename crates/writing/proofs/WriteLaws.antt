@@ -10,23 +10,21 @@ use lib.Dec.{T, eqb}
 use lib.ListN.{length, take, drop, length-append}
 use lib.Seq.{sets, sets-eq, take-at}
 use Rattle.refusal.specs.Numbers.{Check, _if_, first}
-use Rattle.refusal.proofs.Numbers.{named, passed}
+use Rattle.refusal.proofs.Numbers.{named, passed, neither, same-if, past, not-zero, refuses, passes, passed-first, passed-second}
 use Rattle.fields.specs.declared.entries.Entry.{Entry}
 use Rattle.fields.specs.Layout.{nameSize, leastMovements, mostMovements, sheetSize, movementsOff, Within}
 use Rattle.names.specs.Names.{namesIn, namesOff}
-use Rattle.fields.specs.Movements.{givenSize, entrySize, givenIn, entriesGiven, entriesBytes, entriesChecks}
+use Rattle.fields.specs.Movements.{givenSize, entrySize, givenIn, entriesGiven, entriesBytes, givenChecks, entriesChecks}
 use Rattle.book.specs.Head.{openChecks}
 use Rattle.writing.specs.Writing.{countGiven, givenOff, countChecks, contentChecks, roomCheck, writeNumber, sheetOf, written}
-use Rattle.fields.proofs.CheckLaws.{neither, same-if, past, not-zero, refuses, passes, passed-first, passed-second}
 use Rattle.book.proofs.HeadLaws.{Openable, openable}
 use Rattle.sheet.proofs.HeaderLaws.{some-movements}
 use Rattle.fields.proofs.GroupLaws.{length-groups}
+use Rattle.fields.proofs.EntryLaws.{named-given, named-entries}
 use Rattle.writing.proofs.SheetPut.{length-entry, length-header}
 
-pub named-entries : (vessels : ℕ) (es : List Entry) → T (named (entriesChecks vessels es))
-unfolding entriesChecks
-named-entries vessels [] = tt
-named-entries vessels (e ∷ es) = named-entries vessels es
+pub named-movements : (vessels : ℕ) (es : List Entry) → T (named (entriesChecks (givenChecks vessels) es))
+named-movements vessels es = named-entries (givenChecks vessels) (named-given vessels) es
 
 -- What counts that pass their checks are.
 pub record Counted (rule vessels : ℕ) (names numbers : List ℕ) : Type 0 where
@@ -68,12 +66,12 @@ module _ (vessels movements room : ℕ) (names numbers : List ℕ) (off : Bool) 
   pub out-names : off ≡ true → 17 ≡ first (contentChecks vessels movements names numbers room)
   out-names q = rw (← e, q)
 
-  module _ (n : ℕ) (f : off ≡ false) (en : n ≡ first (entriesChecks vessels (entriesGiven movements numbers))) where
+  module _ (n : ℕ) (f : off ≡ false) (en : n ≡ first (entriesChecks (givenChecks vessels) (entriesGiven movements numbers))) where
     abbrev es : List Check
-    es = entriesChecks vessels (entriesGiven movements numbers)
+    es = entriesChecks (givenChecks vessels) (entriesGiven movements numbers)
 
     ok : T (named es)
-    ok = named-entries vessels (entriesGiven movements numbers)
+    ok = named-movements vessels (entriesGiven movements numbers)
 
     pub out-movement : (n ≡ 0 → ⊥) → n ≡ first (contentChecks vessels movements names numbers room)
     out-movement h = rw (← e, f) (refuses es (roomCheck vessels movements room ∷ []) ok n en h)
@@ -87,15 +85,15 @@ module _ (vessels movements room : ℕ) (names numbers : List ℕ) (off : Bool) 
 -- What names, movements and room that pass their checks are.
 pub record Content (vessels movements : ℕ) (names numbers : List ℕ) (most : ℕ) : Type 0 where
   pub named : namesOff (namesIn vessels names) ≡ false
-  pub moved : first (entriesChecks vessels (entriesGiven movements numbers)) ≡ 0
+  pub moved : first (entriesChecks (givenChecks vessels) (entriesGiven movements numbers)) ≡ 0
   pub room : sheetSize vessels movements ≤ most
 
 pub content : (vessels movements most : ℕ) (names numbers : List ℕ) → first (contentChecks vessels movements names numbers most) ≡ 0
     → Content vessels movements names numbers most
 content vessels movements most names numbers e =
-    let es = entriesChecks vessels (entriesGiven movements numbers) in
+    let es = entriesChecks (givenChecks vessels) (entriesGiven movements numbers) in
     let last = roomCheck vessels movements most ∷ [] in
-    let ok = named-entries vessels (entriesGiven movements numbers) in
+    let ok = named-movements vessels (entriesGiven movements numbers) in
     let p = past 16 (namesOff (namesIn vessels names)) (es ++ last) e in
     record {
       named = p .0;

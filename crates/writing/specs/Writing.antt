@@ -1,4 +1,4 @@
--- Writing a sheet: "Writing takes rule, V, 8V name bytes and 4M numbers (s, d, t, q)". Definitions only. Assumes nothing.
+-- Writing a sheet: "Writing takes rule, V, 8V name bytes" and "5M numbers (s, d, t, q, age)". Definitions only. Assumes nothing.
 use mathlib.Core.Bool.{Bool, not, _||_}
 use mathlib.Core.List.{List, [], _∷_, _++_}
 use Prim.Native.Nat.{ℕ, _*_, _/_, _%_}
@@ -8,7 +8,7 @@ use Rattle.refusal.specs.Numbers.{Check, _if_, first, ifZero}
 use Rattle.fields.specs.Bytes.{bytesOf}
 use Rattle.fields.specs.Layout.{nameSize, mark, headerSize, entriesStart, sheetSize, movementsOff}
 use Rattle.names.specs.Names.{namesIn, namesOff}
-use Rattle.fields.specs.Movements.{givenSize, entriesGiven, entriesBytes, entriesChecks}
+use Rattle.fields.specs.Movements.{givenSize, entriesGiven, entriesBytes, givenChecks, entriesChecks}
 use Rattle.book.specs.Head.{openChecks}
 
 -- M: how many movements the numbers hold.
@@ -29,12 +29,11 @@ unfoldable pub sheetOf : ℕ → ℕ → List ℕ → List ℕ → List ℕ
 sheetOf rule vessels names numbers =
     headerBytes rule vessels (countGiven numbers) ++ names ++ entriesBytes (entriesGiven (countGiven numbers) numbers)
 
--- "name bytes not 8V, or numbers not a multiple of 4"
+-- "name bytes not 8V, or numbers not a multiple of" 5
 unfoldable pub givenOff : ℕ → List ℕ → List ℕ → Bool
 givenOff vessels names numbers = not (eqb (length names) (nameSize * vessels)) || not (eqb (length numbers % givenSize) 0)
 
--- "it checks 2, 3, 16, 15, 17, 5, 19": first the counts, then what is written, then the room for it.
--- A movement given has filler 0, so that 18 never applies here.
+-- It checks 2, 3, 16, 15, 17, 18 and 5 in each movement, 19: first the counts, then what is written, then the room for it.
 abbrev pub countChecks : ℕ → ℕ → List ℕ → List ℕ → List Check
 countChecks rule vessels names numbers =
     openChecks rule vessels ++ (16 if givenOff vessels names numbers) ∷ (15 if movementsOff (countGiven numbers)) ∷ []
@@ -44,7 +43,7 @@ roomCheck vessels movements room = 19 if ltb room (sheetSize vessels movements)
 
 abbrev pub contentChecks : ℕ → ℕ → List ℕ → List ℕ → ℕ → List Check
 contentChecks vessels movements names numbers room =
-    (17 if namesOff (namesIn vessels names)) ∷ entriesChecks vessels (entriesGiven movements numbers) ++ roomCheck vessels movements room ∷ []
+    (17 if namesOff (namesIn vessels names)) ∷ entriesChecks (givenChecks vessels) (entriesGiven movements numbers) ++ roomCheck vessels movements room ∷ []
 
 unfoldable pub writeNumber : ℕ → ℕ → List ℕ → List ℕ → ℕ → ℕ
 writeNumber rule vessels names numbers room =

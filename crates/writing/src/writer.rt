@@ -24,7 +24,7 @@ use fields::layout::NAMES_AT;
 use fields::layout::RULE_AT;
 use fields::layout::VESSELS_AT;
 
-// Whether the name bytes are not 8 for each vessel, or the numbers not 4 for each movement.
+// Whether the name bytes are not 8 for each vessel, or the numbers not 5 for each movement.
 fn given_off(vessels: u32, names: &[u8], numbers: &[u32]) -> bool
     requires { ⌜ vessels ≤ mostVessels ⌝ }
     ensures { λ r. ⌜ r ≡ givenOff vessels (now (names .entry)) (now (numbers .entry)) ⌝ }
@@ -119,7 +119,7 @@ fn put_entry(out: &mut [u8], at: usize, e: Entry)
 {
     put_number(out, at, 1, e.source);
     put_number(out, at + 1, 1, e.destination);
-    put_number(out, at + 2, 2, e.filler);
+    put_number(out, at + 2, 2, e.age);
     put_number(out, at + 4, 4, e.minute);
     put_number(out, at + 8, 4, e.weight);
 }

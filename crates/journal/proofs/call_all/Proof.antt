@@ -1,6 +1,7 @@
 -- `journal::call_all` meets its contract. The invariant is `Going`: what was answered and what is left make the whole.
 -- A turn makes one call; the measure is how many are left.
 -- Assumes nothing.
+use Rattle.journal.proofs.AgeLaws.{ages-one}
 use borrow.Author.Needs.{needs}
 use Prim.Native.Nat.{_-_}
 use Rattle.journal.proofs.Carrying.{Going, going-start, going-next, going-end}
@@ -20,7 +21,7 @@ mul-call-at : tie.Need-mul-call-at Inv-loop μ-loop
 mul-call-at c = search needs
 
 call-at-requires : tie.Need-call-at-requires Inv-loop μ-loop
-call-at-requires c κs = search needs
+call-at-requires c κs = search (needs, ages-one)
 
 mul-answers : tie.Need-mul-answers Inv-loop μ-loop
 mul-answers c = search needs

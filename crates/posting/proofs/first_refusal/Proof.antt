@@ -27,29 +27,36 @@ returns-5 : tie.Need-returns-5
 unfolding transferChecks
 returns-5 c = search tests
 
-balance-at-requires : tie.Need-balance-at-requires
-balance-at-requires c κs = search needs
-
 cast-if6 : tie.Need-cast-if6
 cast-if6 c = search needs
 
-cast-if6-2 : tie.Need-cast-if6-2
-cast-if6-2 c = search needs
-
-cast-if6-3 : tie.Need-cast-if6-3
-cast-if6-3 c = search needs
-
-add-if6 : tie.Need-add-if6
-add-if6 c = search needs
-
 returns-6 : tie.Need-returns-6
-returns-6 c = search (needs, overfull)
+unfolding transferChecks
+returns-6 c = search tests
+
+balance-at-requires : tie.Need-balance-at-requires
+balance-at-requires c κs = search needs
+
+cast-if7 : tie.Need-cast-if7
+cast-if7 c = search needs
+
+cast-if7-2 : tie.Need-cast-if7-2
+cast-if7-2 c = search needs
+
+cast-if7-3 : tie.Need-cast-if7-3
+cast-if7-3 c = search needs
+
+add-if7 : tie.Need-add-if7
+add-if7 c = search needs
 
 returns-7 : tie.Need-returns-7
-returns-7 c = search (needs, tally-full)
+returns-7 c = search (needs, overfull)
 
 returns-8 : tie.Need-returns-8
-returns-8 c = search (needs, unrefused)
+returns-8 c = search (needs, tally-full)
+
+returns-9 : tie.Need-returns-9
+returns-9 c = search (needs, unrefused)
 
 pub first-refusal-spec : {M : Type 1} → statement M
 first-refusal-spec =
@@ -60,11 +67,13 @@ first-refusal-spec =
     returns-3
     returns-4
     returns-5
-    balance-at-requires
     cast-if6
-    cast-if6-2
-    cast-if6-3
-    add-if6
     returns-6
+    balance-at-requires
+    cast-if7
+    cast-if7-2
+    cast-if7-3
+    add-if7
     returns-7
-    returns-8)
+    returns-8
+    returns-9)

@@ -1,7 +1,7 @@
 -- `post_checked` meets its contract: the pieces are moved, or there was no place, and the answer says which.
 -- Places: `start` is the function's own, `told` follows the places and the move, `moved` the pieces.
 -- Assumes nothing.
-use Rattle.posting.proofs.Next.{move-ready, move-countable, posts-done}
+use Rattle.posting.proofs.Next.{in-time, move-ready, move-countable, posts-done}
 use borrow.Author.Needs.{needs}
 use Rattle.posting.proofs.post_checked.Statement.{statement}
 use Rattle.posting.proofs.post_checked.Tie as tie
@@ -13,7 +13,7 @@ places-requires : tie.Need-places-requires
 places-requires c κs = search needs
 
 move-of-requires : tie.Need-move-of-requires
-move-of-requires c κs = search needs
+move-of-requires c κs = search (needs, in-time)
 
 move-pieces-requires : tie.Need-move-pieces-requires
 move-pieces-requires c κs = search (needs, move-ready)

@@ -1,8 +1,8 @@
--- Four stores one behind the other are the movement's numbers.
+-- Five stores one behind the other are the movement's numbers.
 use borrow.Author.Needs.{needs}
 use native.Mathlib.Omega.{arith}
 use lib.ListN.{length-set}
-use Rattle.roundtrip.proofs.TakenNumbers.{four-put}
+use Rattle.roundtrip.proofs.TakenNumbers.{five-put}
 use Rattle.roundtrip.proofs.put_movement.Statement.{statement}
 use Rattle.roundtrip.proofs.put_movement.Tie as tie
 
@@ -39,11 +39,23 @@ mul-numbers-4 c = search needs
 slice-write-numbers-4 : tie.Need-slice-write-numbers-4
 slice-write-numbers-4 c = simp length-set (omega arith)
 
+cast-numbers : tie.Need-cast-numbers
+cast-numbers c = search needs
+
+add-numbers-4 : tie.Need-add-numbers-4
+add-numbers-4 c = search needs
+
+mul-numbers-5 : tie.Need-mul-numbers-5
+mul-numbers-5 c = search needs
+
+slice-write-numbers-5 : tie.Need-slice-write-numbers-5
+slice-write-numbers-5 c = simp length-set (omega arith)
+
 same-length : tie.Need-same-length
 same-length c = search needs
 
 returns : tie.Need-returns
-returns c = four-put (c .args .numbers .now) (c .args .at) _ _ _ _
+returns c = let a = c .before .args in five-put (a .numbers .now) (a .at) _ _ _ _ _
 
 pub put-movement-spec : {M : Type 1} → statement M
 put-movement-spec =
@@ -60,5 +72,9 @@ put-movement-spec =
     add-numbers-3
     mul-numbers-4
     slice-write-numbers-4
+    cast-numbers
+    add-numbers-4
+    mul-numbers-5
+    slice-write-numbers-5
     same-length
     returns)

@@ -1,4 +1,4 @@
--- A sheet that reads well holds the movement, and the movement read is the answer.
+-- A sheet that reads well holds the movement, its age fits 16 bits, and the movement read is the answer.
 use Rattle.sheet.proofs.AnswerLaws.{sheet-fits, entry-fits, movement-says}
 use mathlib.Core.Path.{refl}
 use borrow.Author.Needs.{needs}
@@ -26,6 +26,9 @@ add-at-2 c = search needs
 read-entry-requires : tie.Need-read-entry-requires
 read-entry-requires c κs = search (needs, entry-fits)
 
+cast-t11 : tie.Need-cast-t11
+cast-t11 c = search needs
+
 returns : tie.Need-returns
 returns c = search (needs, movement-says)
 
@@ -40,4 +43,5 @@ movement-known-spec =
     mul-at-2
     add-at-2
     read-entry-requires
+    cast-t11
     returns)

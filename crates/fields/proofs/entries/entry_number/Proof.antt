@@ -12,8 +12,5 @@ returns-2 c = search tests
 returns-3 : tie.Need-returns-3
 returns-3 c = search tests
 
-returns-4 : tie.Need-returns-4
-returns-4 c = search tests
-
 pub entry-number-spec : {M : Type 1} → statement M
-entry-number-spec = tie.close (tie.spec returns returns-2 returns-3 returns-4)
+entry-number-spec = tie.close (tie.spec returns returns-2 returns-3)

@@ -1,4 +1,4 @@
--- Four numbers make the movement given.
+-- Five numbers make the movement given.
 use Rattle.fields.proofs.EntryLaws.{given-read}
 use borrow.Author.Needs.{needs}
 use Rattle.fields.proofs.entries.given.Statement.{statement}
@@ -37,8 +37,17 @@ mul-t15 c = search needs
 shared-slice-read-t17 : tie.Need-shared-slice-read-t17
 shared-slice-read-t17 c = search needs
 
+add-t18 : tie.Need-add-t18
+add-t18 c = search needs
+
+mul-t19 : tie.Need-mul-t19
+mul-t19 c = search needs
+
+shared-slice-read-t21 : tie.Need-shared-slice-read-t21
+shared-slice-read-t21 c = search needs
+
 returns : tie.Need-returns
-returns c = let a = c .before .before .before .before .args in given-read (a .numbers .now) (a .at)
+returns c = let a = c .before .before .before .before .before .args in given-read (a .numbers .now) (a .at)
 
 pub given-spec : {M : Type 1} → statement M
 given-spec =
@@ -55,4 +64,7 @@ given-spec =
     add-t14
     mul-t15
     shared-slice-read-t17
+    add-t18
+    mul-t19
+    shared-slice-read-t21
     returns)

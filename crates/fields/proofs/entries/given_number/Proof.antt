@@ -4,13 +4,13 @@ use Prim.Native.Nat.{_-_, _≤_}
 use mathlib.Core.Path.{_≡_}
 use lib.ListN.{drop}
 use Rattle.refusal.specs.Numbers.{first}
-use Rattle.fields.specs.Movements.{entriesGiven, entriesChecks}
-use Rattle.fields.proofs.EntryLaws.{check-turn, check-stop, check-end}
+use Rattle.fields.specs.Movements.{entriesGiven, givenChecks, entriesChecks}
+use Rattle.fields.proofs.EntryLaws.{named-given, check-turn, check-stop, check-end}
 use Rattle.fields.proofs.entries.given_number.Statement.{statement}
 use Rattle.fields.proofs.entries.given_number.Tie as tie
 
 abbrev Inv-loop : tie.InvT-loop
-Inv-loop numbers count vessels i₀ i = (i ≤ count) × (first (entriesChecks vessels (drop i (entriesGiven count numbers))) ≡ first (entriesChecks vessels (entriesGiven count numbers)))
+Inv-loop numbers count vessels i₀ i = (i ≤ count) × (first (entriesChecks (givenChecks vessels) (drop i (entriesGiven count numbers))) ≡ first (entriesChecks (givenChecks vessels) (entriesGiven count numbers)))
 
 abbrev μ-loop : tie.MeasureT-loop
 μ-loop numbers count vessels i₀ i = count - i
@@ -24,11 +24,11 @@ mul-given c = search needs
 given-requires : tie.Need-given-requires Inv-loop μ-loop
 given-requires c κs = search needs
 
-entry-number-requires : tie.Need-entry-number-requires Inv-loop μ-loop
-entry-number-requires c κs = search needs
+given-entry-number-requires : tie.Need-given-entry-number-requires Inv-loop μ-loop
+given-entry-number-requires c κs = search needs
 
 returns : tie.Need-returns Inv-loop μ-loop
-returns c = search (needs, check-stop)
+returns c = search (needs, named-given, check-stop)
 
 add-i : tie.Need-add-i Inv-loop μ-loop
 add-i c = search needs
@@ -37,7 +37,7 @@ loop-less : tie.Need-loop-less Inv-loop μ-loop
 loop-less c = search needs
 
 loop-again : tie.Need-loop-again Inv-loop μ-loop
-loop-again c = (search needs, search (needs, check-turn))
+loop-again c = (search needs, search (needs, named-given, check-turn))
 
 returns-2 : tie.Need-returns-2 Inv-loop μ-loop
 returns-2 c = search (needs, check-end)
@@ -51,7 +51,7 @@ given-number-spec =
     loop-holds
     mul-given
     given-requires
-    entry-number-requires
+    given-entry-number-requires
     returns
     add-i
     loop-less

@@ -4,13 +4,13 @@ use Prim.Native.Nat.{_-_, _≤_}
 use mathlib.Core.Path.{_≡_}
 use lib.ListN.{drop}
 use Rattle.refusal.specs.Numbers.{first}
-use Rattle.fields.specs.Movements.{entriesIn, entriesChecks}
-use Rattle.fields.proofs.EntryLaws.{check-turn, check-stop, check-end}
+use Rattle.fields.specs.Movements.{entriesIn, entryChecks, entriesChecks}
+use Rattle.fields.proofs.EntryLaws.{named-entry, check-turn, check-stop, check-end}
 use Rattle.fields.proofs.entries.read_number.Statement.{statement}
 use Rattle.fields.proofs.entries.read_number.Tie as tie
 
 abbrev Inv-loop : tie.InvT-loop
-Inv-loop entries count vessels i₀ i = (i ≤ count) × (first (entriesChecks vessels (drop i (entriesIn count entries))) ≡ first (entriesChecks vessels (entriesIn count entries)))
+Inv-loop entries count vessels i₀ i = (i ≤ count) × (first (entriesChecks (entryChecks vessels) (drop i (entriesIn count entries))) ≡ first (entriesChecks (entryChecks vessels) (entriesIn count entries)))
 
 abbrev μ-loop : tie.MeasureT-loop
 μ-loop entries count vessels i₀ i = count - i
@@ -28,7 +28,7 @@ entry-number-requires : tie.Need-entry-number-requires Inv-loop μ-loop
 entry-number-requires c κs = search needs
 
 returns : tie.Need-returns Inv-loop μ-loop
-returns c = search (needs, check-stop)
+returns c = search (needs, named-entry, check-stop)
 
 add-i : tie.Need-add-i Inv-loop μ-loop
 add-i c = search needs
@@ -37,7 +37,7 @@ loop-less : tie.Need-loop-less Inv-loop μ-loop
 loop-less c = search needs
 
 loop-again : tie.Need-loop-again Inv-loop μ-loop
-loop-again c = (search needs, search (needs, check-turn))
+loop-again c = (search needs, search (needs, named-entry, check-turn))
 
 returns-2 : tie.Need-returns-2 Inv-loop μ-loop
 returns-2 c = search (needs, check-end)

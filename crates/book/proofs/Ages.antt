@@ -1,0 +1,85 @@
+-- THE AGE OF WHAT IS BORN. `age-zero`: a transfer of age 0 gives and leaves what the transfer without an age gave and left, on any head and any
+-- table. `before-time`: past 5 to 8 an age above the minute is 21, whatever the balances are, so also where nothing would be born. `aged`: what ages do under rules 2 and 3, where births no longer follow the order of receipt, on small cases. `one-entry`: births of
+-- one vessel at different minutes, with ages that bring them to the same minute, are one entry of the weigh book.
+-- Assumes nothing.
+use mathlib.Core.Path.{_≡_, refl}
+use mathlib.Core.Logic.{_≢_}
+use mathlib.Core.List.{List, [], _∷_, map}
+use Prim.Native.Nat.{ℕ, zero, suc, _≤_, _<_}
+use native.Mathlib.Nat.{sub-zero}
+use native.Mathlib.Omega.{arith}
+use lib.ListN.{replicate}
+use borrow.Author.Tests.{lt-leb, lt-ltb, le-ltb, ne-eqb}
+use Rattle.table.specs.Table.{piecesOf, flat, placesOf}
+use Rattle.picking.specs.Selection.{precedes}
+use Rattle.picking.specs.Taking.{takeUpTo, taken}
+use Rattle.refusal.specs.Numbers.{first}
+use Rattle.book.specs.declared.Head.{Head}
+use Rattle.book.specs.declared.Transfer.{Transfer}
+use Rattle.book.specs.Head.{tab, balancesOf, allFit, same, addsUp, opening}
+use Rattle.book.specs.Transfer.{transferOf, Standing, transferChecks, takes}
+use Rattle.book.specs.Calls.{post, meaning}
+use Rattle.book.specs.Memory.{outcome, bookChecks, numberOf, callOn}
+use Rattle.book.specs.WeighBook.{blank, weighNumber, feed}
+use Rattle.book.specs.Lists.{Journal, callsOn}
+use Rattle.book.specs.Former.{unaged, formerMeaning, formerNumber, formerOn}
+
+module _ (h : Head) (t : List ℕ) (s d m q : ℕ) where
+  same-number : numberOf h t (post (unaged s d m q)) ≡ formerNumber h t s d m q
+  unfolding numberOf bookChecks transferChecks takes
+  same-number = rw (le-ltb m 0 (omega arith), sub-zero)
+
+  pub age-zero : callOn h t (post (unaged s d m q)) ≡ formerOn h t s d m q
+  unfolding callOn takes
+  age-zero = rw same-number (go (formerNumber h t s d m q))
+    where
+      go : (n : ℕ) → outcome h t (meaning (post (unaged s d m q))) n ≡ outcome h t (formerMeaning s d m q) n
+      go zero = rw sub-zero
+      go (suc n) = refl
+
+-- the balances play no part in it
+pub before-time : (g : Standing) (x : Transfer) → x .source < g .vessels → x .destination < g .vessels → x .source ≢ x .destination → x .weight ≢ 0
+    → g .last ≤ x .minute → x .minute < x .age → first (transferChecks g x) ≡ 21
+unfolding transferChecks
+before-time g x source-in destination-in apart weighty forward early =
+    rw (lt-leb _ _ source-in, lt-leb _ _ destination-in, ne-eqb _ _ apart, ne-eqb _ _ weighty, le-ltb _ _ forward, lt-ltb _ _ early)
+
+-- transfers on a fresh book of three vessels, and the pieces that they leave
+pub record Case : Type 0 where
+  pub rule : ℕ
+  pub given : List Transfer
+  pub wanted : List ℕ
+
+abbrev pieces : Journal → List ℕ
+pieces r = flat (piecesOf (r .head .pieces) (r .table))
+
+abbrev pub left : Case → List ℕ
+left c = pieces (callsOn ((opening (c .rule) 3) .head) (replicate 32 9) (map post (c .given)))
+
+-- the second delivery is received later, and was milled earlier
+abbrev apart : List Transfer
+apart = transferOf 0 2 10 5 2 ∷ transferOf 1 2 11 4 6 ∷ unaged 2 1 12 6 ∷ []
+
+-- both deliveries were milled in minute 5
+abbrev level : List Transfer
+level = transferOf 0 2 10 5 5 ∷ transferOf 1 2 11 4 6 ∷ unaged 2 1 12 6 ∷ []
+
+abbrev case : ℕ → List Transfer → List ℕ → Case
+case rule given wanted = record { rule = rule; given = given; wanted = wanted }
+
+unfoldable pub cases : List Case
+cases =
+    case 0 apart (2 ∷ 1 ∷ 5 ∷ 3 ∷ 1 ∷ 0 ∷ 8 ∷ 5 ∷ 1 ∷ 1 ∷ 5 ∷ 1 ∷ [])
+    ∷ case 2 apart (2 ∷ 0 ∷ 8 ∷ 3 ∷ 1 ∷ 1 ∷ 5 ∷ 4 ∷ 1 ∷ 0 ∷ 8 ∷ 2 ∷ [])
+    ∷ case 3 apart (2 ∷ 1 ∷ 5 ∷ 3 ∷ 1 ∷ 0 ∷ 8 ∷ 5 ∷ 1 ∷ 1 ∷ 5 ∷ 1 ∷ [])
+    ∷ case 2 level (2 ∷ 1 ∷ 5 ∷ 3 ∷ 1 ∷ 0 ∷ 5 ∷ 5 ∷ 1 ∷ 1 ∷ 5 ∷ 1 ∷ [])
+    ∷ case 3 level (2 ∷ 0 ∷ 5 ∷ 3 ∷ 1 ∷ 1 ∷ 5 ∷ 4 ∷ 1 ∷ 0 ∷ 5 ∷ 2 ∷ [])
+    ∷ []
+
+pub aged : map left cases ≡ map (λ c. c .wanted) cases
+unfolding cases callsOn callOn numberOf bookChecks addsUp allFit same balancesOf tab placesOf piecesOf flat opening transferChecks takes taken takeUpTo precedes
+aged = refl
+
+pub one-entry : (feed (blank 2) (map post (transferOf 0 1 5 2 1 ∷ transferOf 0 1 6 3 2 ∷ []))) .births 0 4 ≡ 5
+unfolding feed weighNumber transferChecks
+one-entry = refl
