@@ -1,7 +1,7 @@
--- `write_vector` meets its contract: the numbers read are those that are written.
+-- `write_vector` meets its contract: the rule and the movements are those read.
 -- Assumes nothing.
-use borrow.Author.Needs.{needs}
 use Rattle.vectors.proofs.VectorLaws.{vector-written}
+use borrow.Author.Needs.{needs}
 use Rattle.vectors.proofs.write_vector.Statement.{statement}
 use Rattle.vectors.proofs.write_vector.Tie as tie
 
@@ -11,8 +11,17 @@ slice-aggregate-read c = search needs
 read-requires : tie.Need-read-requires
 read-requires c κs = search needs
 
+behind-first-requires : tie.Need-behind-first-requires
+behind-first-requires c κs = search needs
+
+array-read-write : tie.Need-array-read-write
+array-read-write c = search needs
+
 cast-write : tie.Need-cast-write
 cast-write c = search needs
+
+mul-write : tie.Need-mul-write
+mul-write c = search needs
 
 sub-write : tie.Need-sub-write
 sub-write c = search needs
@@ -32,6 +41,9 @@ mul-result c = search needs
 add-result : tie.Need-add-result
 add-result c = search needs
 
+sub-result : tie.Need-sub-result
+sub-result c = search needs
+
 mul-result-2 : tie.Need-mul-result-2
 mul-result-2 c = search needs
 
@@ -50,13 +62,17 @@ write-vector-spec =
     (tie.spec
     slice-aggregate-read
     read-requires
+    behind-first-requires
+    array-read-write
     cast-write
+    mul-write
     sub-write
     part-write-start
     part-write-end
     write-requires
     mul-result
     add-result
+    sub-result
     mul-result-2
     add-result-2
     same-length
