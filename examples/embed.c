@@ -1,5 +1,6 @@
-/* Keeps a book from C: the six movements of the published table under rule 2, the pieces they leave,
- * and whose flour lies in vessel 0. Exits with 1 if anything differs from the paper.
+/* Keeps a book from C: the six movements of the published table under rule 2 and a delivery of older
+ * flour, the pieces they leave, and whose flour lies in vessel 0. Exits with 1 if anything differs from
+ * what was worked out by hand.
  *
  *   gcc -std=c99 -Wall -Wextra -pedantic -Iinclude examples/embed.c \
  *       target/staticlib/liblumchaki.a -o target/embed && target/embed */
@@ -8,17 +9,20 @@
 #include <stdio.h>
 #include <string.h>
 
-enum { VESSELS = 3, PLACES = 16, SIX = 6, PIECES = 4 };
+enum { VESSELS = 3, PLACES = 16, MOVEMENTS = 7, PIECES = 5 };
 
-static const uint32_t movements[SIX][4] = {
-    {1, 2, 1, 3}, {2, 0, 3, 5}, {0, 1, 4, 3}, {1, 2, 5, 7}, {2, 1, 7, 2}, {2, 0, 8, 1},
+/* Source, destination, minute, weight, age. The last one needs 3 grams more than vessel 1 has; they
+ * were milled 7 minutes before, at minute 2. */
+static const uint32_t movements[MOVEMENTS][5] = {
+    {1, 2, 1, 3, 0}, {2, 0, 3, 5, 0}, {0, 1, 4, 3, 0}, {1, 2, 5, 7, 0},
+    {2, 1, 7, 2, 0}, {2, 0, 8, 1, 0}, {1, 0, 9, 5, 7},
 };
 
 static const uint32_t expected_pieces[PIECES][4] = {
-    {0, 2, 3, 2}, {2, 1, 5, 4}, {1, 1, 1, 2}, {0, 1, 1, 1},
+    {0, 2, 3, 2}, {2, 1, 5, 4}, {0, 1, 1, 1}, {0, 1, 1, 2}, {0, 1, 2, 3},
 };
 
-static const uint32_t expected_held[VESSELS] = {0, 1, 2};
+static const uint32_t expected_held[VESSELS] = {0, 6, 2};
 
 int main(void) {
     uint32_t table[4 * PLACES] = {0};
@@ -31,10 +35,10 @@ int main(void) {
         fprintf(stderr, "opening refused: %u\n", (unsigned)opened.number);
         return 1;
     }
-    for (i = 0; i < SIX; i++) {
+    for (i = 0; i < MOVEMENTS; i++) {
         const uint32_t *m = movements[i];
-        lumchaki_transferred done =
-            lumchaki_transfer(head, table, 4 * PLACES, m[0], m[1], m[2], m[3]);
+        lumchaki_transferred done = lumchaki_transfer(head, table, 4 * PLACES, m[0], m[1], m[2], m[3],
+                                                      (uint16_t)m[4]);
         if (done.number != LUMCHAKI_ACCEPTED) {
             fprintf(stderr, "movement %u refused: %u\n", (unsigned)i, (unsigned)done.number);
             return 1;
@@ -57,13 +61,14 @@ int main(void) {
 
     if (head.pieces != PIECES || memcmp(table, expected_pieces, sizeof expected_pieces) != 0 ||
         memcmp(held, expected_held, sizeof expected_held) != 0) {
-        fputs("that is not what the paper has\n", stderr);
+        fputs("that is not what was worked out\n", stderr);
         return 1;
     }
-    /* The clock does not run back, and a refusal changes nothing. */
-    if (lumchaki_transfer(head, table, 4 * PLACES, 2, 0, 7, 1).number != LUMCHAKI_CLOCK_BACK ||
+    /* The clock does not run back, nothing is milled before minute 0, and a refusal changes nothing. */
+    if (lumchaki_transfer(head, table, 4 * PLACES, 2, 0, 8, 1, 0).number != LUMCHAKI_CLOCK_BACK ||
+        lumchaki_transfer(head, table, 4 * PLACES, 2, 0, 9, 1, 10).number != LUMCHAKI_BEFORE_TIME ||
         memcmp(table, expected_pieces, sizeof expected_pieces) != 0) {
-        fputs("a transfer at minute 7 was not refused\n", stderr);
+        fputs("a transfer back in time was not refused\n", stderr);
         return 1;
     }
     return 0;

@@ -62,9 +62,10 @@ enum {
     LUMCHAKI_MOVEMENTS_OFF = 15, /* "movements": the count of movements is not 1 to 4,096 */
     LUMCHAKI_LAYOUT = 16,       /* "layout": an offset or length is wrong */
     LUMCHAKI_NAME = 17,         /* "name": a name is ill-formed or used twice */
-    LUMCHAKI_FILLER = 18,       /* "filler": a filler is not 0 */
+    LUMCHAKI_AGE_OVER = 18,     /* "filler": an age that is to be written is above 65,535 */
     LUMCHAKI_OUTPUT_SHORT = 19, /* "short paper": the room for the sheet is too small */
-    LUMCHAKI_PAST_END = 20      /* "past the end": the movement asked for is not on the sheet */
+    LUMCHAKI_PAST_END = 20,     /* "past the end": the movement asked for is not on the sheet */
+    LUMCHAKI_BEFORE_TIME = 21   /* "milled before time": the age is above the minute */
 };
 
 /* The head of a book. A fresh one comes from lumchaki_open. */
@@ -91,7 +92,7 @@ typedef struct {
     lumchaki_head head; /* the next head; the one given on a refusal */
     uint32_t whole;     /* how many pieces moved whole */
     uint32_t split;     /* how many pieces were split: 0 or 1 */
-    uint32_t born;      /* the weight that the source lacked, born there now */
+    uint32_t born;      /* the weight that the source lacked, born there */
 } lumchaki_transferred;
 
 typedef struct {
@@ -112,6 +113,7 @@ typedef struct {
     uint32_t destination;
     uint32_t minute;
     uint32_t weight;
+    uint16_t age; /* what is born was milled so many minutes before; two bytes of padding follow */
 } lumchaki_movement_read;
 
 typedef struct {
@@ -125,10 +127,11 @@ typedef struct {
 lumchaki_opened lumchaki_open(uint32_t rule, uint32_t vessels);
 
 /* Transfers weight from source to destination at a minute. Pieces of the source are picked by the rule
- * until the weight is reached; what the source lacks is born there now. Checks 1, 4, 5 to 11. */
+ * until the weight is reached; what the source lacks is born there. What is born was milled `age`
+ * minutes before: its birth minute is minute - age. Checks 1, 4, 5 to 8, 21, 9 to 11. */
 lumchaki_transferred lumchaki_transfer(lumchaki_head head, uint32_t *table, size_t table_len,
                                        uint32_t source, uint32_t destination, uint32_t minute,
-                                       uint32_t weight);
+                                       uint32_t weight, uint16_t age);
 
 /* Writes `vessels` numbers: the weight by origin in a vessel. Checks 1, 4, 5, 13. */
 lumchaki_reported lumchaki_held(lumchaki_head head, const uint32_t *table, size_t table_len,
@@ -153,9 +156,10 @@ lumchaki_reported lumchaki_whole(lumchaki_head head, const uint32_t *table, size
  *   16  24 + 8 V, where the movements start (4)
  *   20  24 + 8 V + 12 M, the length (4)
  *   24  V names of 8 bytes: 1 to 8 bytes of 21 to 7E hexadecimal, then zeros
- *  ...  M movements of 12 bytes: source (1), destination (1), filler 0 (2), minute (4), weight (4) */
+ *  ...  M movements of 12 bytes: source (1), destination (1), age (2), minute (4), weight (4) */
 
-/* Reads a sheet and checks all of it: 14, 2, 3, 15, 16, 17, then for each movement 18, 5. */
+/* Reads a sheet and checks all of it: 14, 2, 3, 15, 16, 17, then 5 of each movement. Any age can be
+ * read; one above its minute stops the run. */
 lumchaki_reading lumchaki_read(const uint8_t *sheet, size_t sheet_len);
 
 /* The movement at an index from 0. Checks as lumchaki_read, then 20. */
@@ -166,14 +170,15 @@ lumchaki_movement_read lumchaki_movement(const uint8_t *sheet, size_t sheet_len,
 size_t lumchaki_name(const uint8_t *sheet, size_t sheet_len, uint32_t vessel);
 uint32_t lumchaki_name_number(const uint8_t *sheet, size_t sheet_len, uint32_t vessel);
 
-/* Writes the sheet of 8 bytes for each name and 4 numbers for each movement: source, destination,
- * minute, weight. Bytes of `out` behind the sheet remain. Gives the number; checks 2, 3, 16, 15, 17,
- * 5, 19. */
+/* Writes the sheet of 8 bytes for each name and 5 numbers for each movement: source, destination,
+ * minute, weight, age. Bytes of `out` behind the sheet remain. Gives the number; checks 2, 3, 16, 15,
+ * 17, then 18 and 5 of each movement, 19. */
 uint32_t lumchaki_write(uint32_t rule, uint32_t vessels, const uint8_t *names, size_t names_len,
                         const uint32_t *numbers, size_t numbers_len, uint8_t *out, size_t out_len);
 
 /* Runs a sheet on a table: checks as lumchaki_read, then 1, opens a book and transfers until a
- * movement is refused, with 6 to 9 or 11. A run that stops so keeps the movements before its stop. */
+ * movement is refused, with 6 to 8, 21, 9 or 11. A run that stops so keeps the movements before its
+ * stop. */
 lumchaki_ran lumchaki_run(const uint8_t *sheet, size_t sheet_len, uint32_t *table, size_t table_len);
 
 #ifdef __cplusplus

@@ -3,7 +3,7 @@
 
 use crate::clock::best;
 use calls::{Engine, Head, Piece, Transfer, PLACES, VESSELS};
-use compare::{heaviest, working_day, Random};
+use compare::{aged_day, heaviest, working_day, Random};
 use second::{Book, Second};
 
 /// An engine, or the second implementation.
@@ -13,9 +13,10 @@ type Timed = Option<&'static dyn Engine>;
 type Row = (&'static str, fn(&Loads, Timed) -> f64);
 
 /// The rows of the table.
-pub const ROWS: [Row; 7] = [
+pub const ROWS: [Row; 8] = [
     ("heaviest sheet, 4,096 movements", Loads::heaviest),
     ("bakery's day, 4,096 movements", Loads::day),
+    ("the same day, ages in any order", Loads::aged_day),
     ("light transfer, a part of one lot", Loads::light),
     ("heavy transfer, 4,096 pieces whole", Loads::heavy),
     ("held report, 4,096 pieces", Loads::held),
@@ -37,6 +38,8 @@ struct Full {
 pub struct Loads {
     heaviest: Vec<u8>,
     day: Vec<u8>,
+    /// The same movements with flour of any age.
+    aged_day: Vec<u8>,
     /// 4,000 pieces in 64 vessels.
     nearly_full: Full,
     /// 4,096 pieces in 64 vessels.
@@ -114,10 +117,12 @@ fn run(engine: Timed, sheet: &[u8]) -> f64 {
 
 impl Loads {
     pub fn new(rule: u32) -> Loads {
-        let mut random = Random::new(51);
+        const SEED: u64 = 51;
+        let mut random = Random::new(SEED);
         Loads {
             heaviest: heaviest(rule).bytes(),
             day: working_day(&mut random, rule).bytes(),
+            aged_day: aged_day(&mut Random::new(SEED), rule).bytes(),
             nearly_full: book_of(&mut random, rule, PLACES - LIGHT, VESSELS as u32),
             full: book_of(&mut random, rule, PLACES, VESSELS as u32),
             heap: book_of(&mut random, rule, PLACES, 1),
@@ -136,6 +141,10 @@ impl Loads {
 
     fn day(&self, engine: Timed) -> f64 {
         run(engine, &self.day)
+    }
+
+    fn aged_day(&self, engine: Timed) -> f64 {
+        run(engine, &self.aged_day)
     }
 
     fn light(&self, engine: Timed) -> f64 {

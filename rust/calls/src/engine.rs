@@ -41,7 +41,7 @@ pub trait Engine: Sync {
     /// The number that asking for a vessel's name gives.
     fn name_number(&self, sheet: &[u8], vessel: u32) -> u32;
 
-    /// Writes a sheet: 8 bytes for each name, 4 numbers for each movement.
+    /// Writes a sheet: 8 bytes for each name, 5 numbers for each movement.
     fn write(&self, rule: u32, vessels: u32, names: &[u8], numbers: &[u32], out: &mut [u8]) -> u32;
 
     /// Runs a sheet on a table.

@@ -10,6 +10,6 @@ mod refusal;
 pub use engine::Engine;
 pub use records::{
     places, Head, Movement, Opened, Piece, Ran, Reading, Reported, Transfer, Transferred,
-    MOVEMENTS, MOVEMENT_BYTES, NAME_BYTES, PLACES, SHEET_HEADER, TOP, VESSELS,
+    MOVEMENTS, MOVEMENT_BYTES, MOVEMENT_NUMBERS, NAME_BYTES, PLACES, SHEET_HEADER, TOP, VESSELS,
 };
 pub use refusal::Refusal;

@@ -21,6 +21,9 @@ pub const NAME_BYTES: usize = 8;
 /// The bytes of a movement in a sheet.
 pub const MOVEMENT_BYTES: usize = 12;
 
+/// The numbers of a movement that a sheet is written from: s, d, t, q, age.
+pub const MOVEMENT_NUMBERS: usize = 5;
+
 /// The head of a book. It goes into a call by value, and the next head comes back.
 #[repr(C)]
 #[derive(Clone, Copy, Debug, PartialEq, Eq)]
@@ -63,7 +66,7 @@ pub struct Piece {
     pub holder: u32,
     /// The vessel where it was born.
     pub origin: u32,
-    /// The minute when it was born.
+    /// The minute when it was born: that of the transfer it was born in, less the age.
     pub birth: u32,
     /// Its weight in grams.
     pub weight: u32,
@@ -87,7 +90,8 @@ impl Piece {
     }
 }
 
-/// What a transfer is asked to do: weight from source to destination, at a minute.
+/// What a transfer is asked to do: weight from source to destination, at a minute. What is born was
+/// milled `age` minutes before: its birth minute is `minute - age`.
 #[derive(Clone, Copy, Debug, PartialEq, Eq)]
 pub struct Transfer {
     /// The vessel that gives.
@@ -98,22 +102,36 @@ pub struct Transfer {
     pub minute: u32,
     /// The weight in grams.
     pub weight: u32,
+    /// How many minutes before the transfer was milled what is born in it.
+    pub age: u16,
 }
 
 impl Transfer {
-    /// The transfer of four numbers in the order of document 01: s, d, t, q.
-    pub fn new([source, destination, minute, weight]: [u32; 4]) -> Transfer {
+    /// The transfer of four numbers in the order of document 01: s, d, t, q. Its age is 0.
+    pub const fn new([source, destination, minute, weight]: [u32; 4]) -> Transfer {
         Transfer {
             source,
             destination,
             minute,
             weight,
+            age: 0,
         }
     }
 
-    /// The four numbers in the order of document 01: s, d, t, q.
-    pub fn numbers(&self) -> [u32; 4] {
-        [self.source, self.destination, self.minute, self.weight]
+    /// The same transfer with this age.
+    pub const fn aged(self, age: u16) -> Transfer {
+        Transfer { age, ..self }
+    }
+
+    /// The five numbers that a sheet is written from: s, d, t, q, age.
+    pub fn numbers(&self) -> [u32; MOVEMENT_NUMBERS] {
+        [
+            self.source,
+            self.destination,
+            self.minute,
+            self.weight,
+            self.age.into(),
+        ]
     }
 }
 
@@ -139,7 +157,7 @@ pub struct Transferred {
     pub whole: u32,
     /// How many pieces were split: 0 or 1.
     pub split: u32,
-    /// The weight that the source lacked, born there now.
+    /// The weight that the source lacked, born there.
     pub born: u32,
 }
 
@@ -188,6 +206,8 @@ pub struct Movement {
     pub minute: u32,
     /// The weight in grams.
     pub weight: u32,
+    /// How many minutes before was milled what is born; two bytes of padding follow.
+    pub age: u16,
 }
 
 /// The answer of a run.
@@ -207,9 +227,10 @@ pub struct Ran {
 #[cfg(test)]
 mod tests {
     use super::*;
-    use core::mem::size_of;
+    use core::mem::{offset_of, size_of};
 
-    /// Nothing but 32-bit numbers, so that C and Rust agree on every offset.
+    /// Nothing but 32-bit numbers, so that C and Rust agree on every offset. A movement has its age
+    /// behind them, and padding behind that.
     #[test]
     fn records_have_no_gaps() {
         let numbers = [
@@ -218,7 +239,8 @@ mod tests {
             (size_of::<Transferred>(), 9 + VESSELS),
             (size_of::<Reported>(), 6 + VESSELS),
             (size_of::<Reading>(), 4),
-            (size_of::<Movement>(), 5),
+            (offset_of!(Movement, age), 5),
+            (size_of::<Movement>(), 6),
             (size_of::<Ran>(), 8 + VESSELS),
         ];
         for (size, count) in numbers {

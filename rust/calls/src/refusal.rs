@@ -1,4 +1,4 @@
-//! The refusals of document 01, "Numbers and their words".
+//! The refusals of document 01, "Numbers and their words", and that of document 02's ages.
 
 use core::error::Error;
 use core::fmt;
@@ -41,17 +41,19 @@ pub enum Refusal {
     Layout = 16,
     /// A name is ill-formed or used twice.
     Name = 17,
-    /// A filler is not 0.
-    Filler = 18,
+    /// An age that is to be written is above 65,535.
+    AgeOver = 18,
     /// The room for the sheet is too small.
     OutputShort = 19,
     /// The movement asked for is not on the sheet.
     PastEnd = 20,
+    /// The age is above the minute.
+    BeforeTime = 21,
 }
 
 impl Refusal {
     /// Every refusal, in the order of its number.
-    pub const ALL: [Refusal; 20] = [
+    pub const ALL: [Refusal; 21] = [
         Refusal::TableShort,
         Refusal::RuleUnknown,
         Refusal::VesselCount,
@@ -69,9 +71,10 @@ impl Refusal {
         Refusal::Movements,
         Refusal::Layout,
         Refusal::Name,
-        Refusal::Filler,
+        Refusal::AgeOver,
         Refusal::OutputShort,
         Refusal::PastEnd,
+        Refusal::BeforeTime,
     ];
 
     /// The refusal of a number; none for 0 and for a number that no call gives.
@@ -79,12 +82,12 @@ impl Refusal {
         Refusal::ALL.into_iter().find(|r| r.number() == number)
     }
 
-    /// Its number in document 01.
+    /// Its number in document 01 or 02.
     pub const fn number(self) -> u32 {
         self as u32
     }
 
-    /// Its word in document 01.
+    /// Its word in document 01 or 02.
     pub const fn word(self) -> &'static str {
         match self {
             Refusal::TableShort => "no tray",
@@ -104,9 +107,10 @@ impl Refusal {
             Refusal::Movements => "movements",
             Refusal::Layout => "layout",
             Refusal::Name => "name",
-            Refusal::Filler => "filler",
+            Refusal::AgeOver => "filler",
             Refusal::OutputShort => "short paper",
             Refusal::PastEnd => "past the end",
+            Refusal::BeforeTime => "milled before time",
         }
     }
 }
@@ -124,12 +128,12 @@ mod tests {
     use super::Refusal;
 
     #[test]
-    fn numbers_run_from_1_to_20() {
+    fn numbers_run_from_1_to_21() {
         for (i, refusal) in Refusal::ALL.into_iter().enumerate() {
             assert_eq!(refusal.number(), i as u32 + 1);
             assert_eq!(Refusal::of(refusal.number()), Some(refusal));
         }
         assert_eq!(Refusal::of(0), None);
-        assert_eq!(Refusal::of(21), None);
+        assert_eq!(Refusal::of(22), None);
     }
 }

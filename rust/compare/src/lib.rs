@@ -1,6 +1,7 @@
 //! Compares implementations of document 01 call by call: answers, lent memory, and what lies
 //! around it. The tests are in `tests/`; here is what they share.
 
+mod ages;
 #[cfg(feature = "library")]
 mod library;
 mod make;
@@ -8,11 +9,12 @@ mod pair;
 mod random;
 mod tally;
 
+pub use ages::Ages;
 #[cfg(feature = "library")]
 pub use library::Library;
 pub use make::{
-    book, call_list, foul_book, heaviest, names, near, report_room, room, sheet, transfer_for,
-    working_day, Call, FOUL_CLAUSES,
+    aged_day, book, call_list, foul_book, heaviest, names, near, report_room, room, sheet,
+    transfer_for, working_day, Call, FOUL_CLAUSES,
 };
 pub use pair::Pair;
 pub use random::Random;

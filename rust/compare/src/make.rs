@@ -37,13 +37,35 @@ fn vessel(random: &mut Random, vessels: u32) -> u32 {
     random.below(vessels.max(1))
 }
 
-/// A minute after the last one, now and then before it.
+/// A minute after the last one, now and then before it, now and then long after it.
 fn minute(random: &mut Random, last: u32) -> u32 {
     match random.below(60) {
         0 => near(random, &[last]),
         1..=3 => last.saturating_sub(random.from_to(1, 3)),
+        4 => last.saturating_add(random.below(100_000)),
         _ => last.saturating_add(random.below(3)),
     }
+}
+
+/// An age for a transfer at a minute: mostly 0 or small. Else it makes the birth one of these earlier
+/// ones or its neighbour, or puts it before all of them, at minute 0 or just before that; or it is the
+/// largest, or any.
+fn age(random: &mut Random, minute: u32, births: impl Iterator<Item = u32>) -> u16 {
+    let age = match random.below(32) {
+        0..=4 => {
+            let mut births: Vec<u32> = births.collect();
+            births.push(minute);
+            minute.saturating_sub(near(random, &births))
+        }
+        5 | 6 => minute - births.min().unwrap_or(0).saturating_sub(1).min(minute),
+        7 => minute,
+        8 => minute.saturating_add(1),
+        9 => u16::MAX.into(),
+        10 => random.any() >> 16,
+        11..=18 => random.below(4).min(minute),
+        _ => 0,
+    };
+    age.try_into().unwrap_or(u16::MAX)
 }
 
 /// Numbers to be overwritten: not zeros, so that what remains can be told.
@@ -70,12 +92,14 @@ pub fn book(random: &mut Random, rule: u32, length: usize) -> (Head, Vec<u32>) {
     let mut head = Head {
         rule,
         vessels: random.one_of(&[1, 2, 2, 2, 3, 3, 3, 4, 4, 7, 63, 64]),
-        last: random.one_of(&[0, 3, 1000, TOP - 1, TOP]),
+        last: random.one_of(&[0, 3, 1000, 65_534, 65_535, TOP - 1, TOP]),
         ..Head::ZERO
     };
     let some = random.below(places + 1);
     let count = random.one_of(&[places, places.saturating_sub(1), some]);
     let heavy = random.once_in(4);
+    // The most that a birth lies before the last minute: ages give any.
+    let oldest = random.one_of(&[3, 3, 3, 100_000]).min(head.last);
     for place in table.chunks_exact_mut(4).take(count as usize) {
         let holder = random.below(head.vessels);
         let balance = &mut head.balances[holder as usize];
@@ -86,7 +110,7 @@ pub fn book(random: &mut Random, rule: u32, length: usize) -> (Head, Vec<u32>) {
         let piece = Piece {
             holder,
             origin: random.below(head.vessels),
-            birth: head.last - random.below(head.last.min(3) + 1),
+            birth: head.last - random.below(oldest + 1),
             weight: random.from_to(1, if heavy { free } else { free.min(9) }),
         };
         *balance += piece.weight;
@@ -188,7 +212,7 @@ pub fn foul_book(random: &mut Random, clause: &str, head: &mut Head, table: &mut
     true
 }
 
-/// A transfer for a book, aimed at what decides: exact weights, limits, the last minute.
+/// A transfer for a book, aimed at what decides: exact weights, limits, the last minute, births.
 pub fn transfer_for(random: &mut Random, head: &Head, table: &[u32]) -> Transfer {
     let mut source = vessel(random, head.vessels);
     let mut destination = vessel(random, head.vessels);
@@ -220,11 +244,13 @@ pub fn transfer_for(random: &mut Random, head: &Head, table: &[u32]) -> Transfer
         5 => in_turn.saturating_add(1),
         _ => random.below(20),
     };
+    let minute = minute(random, head.last);
     Transfer {
         source,
         destination,
-        minute: minute(random, head.last),
+        minute,
         weight,
+        age: age(random, minute, pieces.iter().map(|p| p.birth)),
     }
 }
 
@@ -244,11 +270,13 @@ fn weighed_transfer(random: &mut Random, book: &WeighBook) -> Transfer {
         6 => random.from_to(0, weight(source)),
         _ => random.from_to(1, 12),
     };
+    let minute = minute(random, book.last);
     Transfer {
         source,
         destination,
-        minute: minute(random, book.last),
+        minute,
         weight: wanted,
+        age: age(random, minute, book.births.keys().map(|&(_, birth)| birth)),
     }
 }
 
@@ -357,4 +385,14 @@ pub fn working_day(random: &mut Random, rule: u32) -> Sheet {
         names: names(random, VESSELS as u32),
         movements,
     }
+}
+
+/// A bakery's day with flour of any age: the same movements, and births in no order.
+pub fn aged_day(random: &mut Random, rule: u32) -> Sheet {
+    let mut sheet = working_day(random, rule);
+    for movement in &mut sheet.movements {
+        let oldest = movement.minute.min(u16::MAX.into());
+        movement.age = random.from_to(0, oldest) as u16;
+    }
+    sheet
 }

@@ -1,8 +1,9 @@
 //! Two implementations side by side.
 
-use crate::Tally;
+use crate::{Ages, Tally};
 use calls::{
     places, Engine, Head, Movement, Opened, Ran, Reading, Reported, Transfer, Transferred,
+    MOVEMENT_BYTES, MOVEMENT_NUMBERS, SHEET_HEADER,
 };
 use second::Second;
 use std::fmt::Debug;
@@ -34,6 +35,8 @@ pub struct Pair {
     subject: &'static dyn Engine,
     /// What the subject answered so far.
     pub tally: Tally,
+    /// What the ages of its transfers came to.
+    pub ages: Ages,
 }
 
 impl Pair {
@@ -42,6 +45,7 @@ impl Pair {
         Pair {
             subject,
             tally: Tally::default(),
+            ages: Ages::default(),
         }
     }
 
@@ -86,8 +90,38 @@ impl Pair {
             assert_eq!((answer.head, &*table), (head, &before[..]), "refused");
             assert_eq!([answer.whole, answer.split, answer.born], [0; 3]);
         }
+        self.beside_young((head, &before), table, t, &answer);
         self.tally.add("transfer", answer.number);
         answer
+    }
+
+    /// A transfer beside the same one at age 0: they come to the same, but for 21 and the birth of
+    /// what is born.
+    fn beside_young(
+        &mut self,
+        (head, before): (Head, &[u32]),
+        table: &[u32],
+        t: Transfer,
+        answer: &Transferred,
+    ) {
+        let mut young_table = before.to_vec();
+        let young = match t.age {
+            0 => *answer,
+            _ => Second.transfer(head, &mut young_table, t.aged(0)),
+        };
+        self.ages.add((&head, before), t, answer, &young);
+        assert_eq!(answer.number, Ages::number(t, young.number), "{t:?}");
+        if t.age == 0 || answer.number != 0 {
+            return;
+        }
+        assert_eq!(*answer, young, "{t:?}");
+        if answer.born > 0 {
+            // What is born is the last piece.
+            let birth = &mut young_table[4 * answer.head.pieces as usize - 2];
+            assert_eq!(*birth, t.minute);
+            *birth -= u32::from(t.age);
+        }
+        assert_eq!(table, young_table, "{t:?}");
     }
 
     /// A report, by the call that makes it. The table stays, a refusal writes nothing, and the
@@ -198,7 +232,7 @@ impl Pair {
         self.same("write", &told, answer, expected);
         self.same("write's bytes", &told, &*out, &expected_out);
         let written = if answer == 0 {
-            24 + names.len() + 3 * numbers.len()
+            SHEET_HEADER + names.len() + MOVEMENT_BYTES * (numbers.len() / MOVEMENT_NUMBERS)
         } else {
             0
         };

@@ -11,7 +11,7 @@ pub struct Moved {
     pub whole: u32,
     /// How many pieces were split: 0 or 1.
     pub split: u32,
-    /// The weight that the source lacked, born there now.
+    /// The weight that the source lacked, born there.
     pub born: u32,
 }
 
@@ -25,10 +25,12 @@ pub fn open(rule: u32, vessels: u32) -> Result<Head, Refusal> {
     Ok(answer.head)
 }
 
-/// Transfers weight from one vessel to another. A refused transfer leaves head and table as they are.
+/// Transfers weight from one vessel to another. What the source lacks is born there; it was milled
+/// `age` minutes before, so that its birth minute is `minute - age`. A refused transfer leaves head and
+/// table as they are.
 ///
 /// # Errors
-/// The refusals 1, 4 and 5 to 11, the first that applies.
+/// The refusals 1, 4, 5 to 8, 21 and 9 to 11, the first that applies in this order.
 pub fn transfer(head: &mut Head, table: &mut [u32], transfer: Transfer) -> Result<Moved, Refusal> {
     let answer = raw::transfer(*head, table, transfer);
     accept(answer.number)?;

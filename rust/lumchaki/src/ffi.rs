@@ -12,6 +12,7 @@ extern "C" {
         destination: u32,
         minute: u32,
         weight: u32,
+        age: u16,
     ) -> Transferred;
     pub fn lumchaki_held(
         head: Head,
@@ -67,9 +68,9 @@ mod tests {
     use calls::Refusal;
     use std::ptr::{null, null_mut};
 
-    /// The 24 + 2 × 8 + 12 bytes of a sheet with one movement.
+    /// The 24 + 2 × 8 + 12 bytes of a sheet with one movement, of age 4.
     const SHEET: &[u8; 52] = b"PROV\0\0\x02\0\x01\0\0\0\x18\0\0\0\x28\0\0\0\x34\0\0\0\
-        A\0\0\0\0\0\0\0B\0\0\0\0\0\0\0\0\x01\0\0\x05\0\0\0\x07\0\0\0";
+        A\0\0\0\0\0\0\0B\0\0\0\0\0\0\0\0\x01\x04\0\x05\0\0\0\x07\0\0\0";
 
     const SHORT: u32 = Refusal::TableShort.number();
     const NO_SHEET: u32 = Refusal::NoSheet.number();
@@ -86,7 +87,7 @@ mod tests {
         let numbers = unsafe {
             let head = lumchaki_open(0, 2).head;
             [
-                lumchaki_transfer(head, null_mut(), 0, 0, 1, 0, 1).number,
+                lumchaki_transfer(head, null_mut(), 0, 0, 1, 0, 1, 0).number,
                 lumchaki_held(head, null(), 0, 0, r, 2).number,
                 lumchaki_held(head, null(), 0, 0, null_mut(), 0).number,
                 lumchaki_held(head, t, 8, 0, null_mut(), 0).number,
@@ -108,7 +109,7 @@ mod tests {
 
     #[test]
     fn null_lends_nothing_to_the_sheet() {
-        let (names, movement) = (&SHEET[24..40], [0, 1, 5, 7]);
+        let (names, movement) = (&SHEET[24..40], [0, 1, 5, 7, 4]);
         let (n, m) = (names.as_ptr(), movement.as_ptr());
         let mut table = [0; 4];
         let mut out = [0xee; SHEET.len()];
@@ -129,10 +130,10 @@ mod tests {
             let (o, room) = (out.as_mut_ptr(), out.len());
             let (layout, count) = (Refusal::Layout.number(), Refusal::Movements.number());
             let output_short = Refusal::OutputShort.number();
-            assert_eq!(lumchaki_write(0, 2, null(), 0, m, 4, o, room), layout);
+            assert_eq!(lumchaki_write(0, 2, null(), 0, m, 5, o, room), layout);
             assert_eq!(lumchaki_write(0, 2, n, 16, null(), 0, o, room), count);
             assert_eq!(
-                lumchaki_write(0, 2, n, 16, m, 4, null_mut(), 0),
+                lumchaki_write(0, 2, n, 16, m, 5, null_mut(), 0),
                 output_short
             );
             assert_eq!(
@@ -140,7 +141,7 @@ mod tests {
                 layout
             );
             assert!(out.iter().all(|&byte| byte == 0xee));
-            assert_eq!(lumchaki_write(0, 2, n, 16, m, 4, o, room), 0);
+            assert_eq!(lumchaki_write(0, 2, n, 16, m, 5, o, room), 0);
         }
         assert_eq!((table, &out), ([0; 4], SHEET));
     }

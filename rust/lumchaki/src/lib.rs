@@ -7,26 +7,27 @@
 //! ```
 //! use lumchaki::{held, open, transfer, Piece, Refusal, Transfer};
 //!
-//! // Two suppliers deliver to a silo; the mixer takes the oldest flour first (rule 2).
+//! // Two suppliers deliver to a silo; the mixer takes the oldest flour first (rule 2). The farm's
+//! // comes last and was milled first: it is 60 minutes old.
 //! const MILL: u32 = 0;
 //! const FARM: u32 = 1;
 //! const SILO: u32 = 2;
 //! const MIXER: u32 = 3;
 //! let mut table = [0; 4 * 100];
 //! let mut head = open(2, 4)?;
-//! transfer(&mut head, &mut table, Transfer::new([MILL, SILO, 1, 500]))?;
-//! transfer(&mut head, &mut table, Transfer::new([FARM, SILO, 2, 300]))?;
-//! let moved = transfer(&mut head, &mut table, Transfer::new([SILO, MIXER, 5, 600]))?;
+//! transfer(&mut head, &mut table, Transfer::new([MILL, SILO, 480, 500]))?;
+//! transfer(&mut head, &mut table, Transfer::new([FARM, SILO, 490, 300]).aged(60))?;
+//! let moved = transfer(&mut head, &mut table, Transfer::new([SILO, MIXER, 500, 600]))?;
 //! assert_eq!((moved.whole, moved.split, moved.born), (1, 1, 0));
 //!
 //! let mut report = [0; 4];
-//! assert_eq!(held(&head, &table, MIXER, &mut report)?, [500, 100, 0, 0]);
+//! assert_eq!(held(&head, &table, MIXER, &mut report)?, [300, 300, 0, 0]);
 //!
 //! let oldest = Piece::all(&head, &table).min_by_key(|p| p.birth);
-//! assert_eq!(oldest.map(|p| (p.holder, p.origin)), Some((MIXER, MILL)));
+//! assert_eq!(oldest.map(|p| (p.holder, p.origin, p.birth)), Some((MIXER, FARM, 430)));
 //!
-//! // A refusal changes nothing and has document 01's number and word.
-//! let back = transfer(&mut head, &mut table, Transfer::new([SILO, MIXER, 4, 1]));
+//! // A refusal changes nothing and has its number and word in document 01 or 02.
+//! let back = transfer(&mut head, &mut table, Transfer::new([SILO, MIXER, 499, 1]));
 //! assert_eq!(back, Err(Refusal::ClockBack));
 //! assert_eq!(Refusal::ClockBack.to_string(), "clock back (8)");
 //! # Ok::<(), Refusal>(())
@@ -48,5 +49,5 @@ fn accept(number: u32) -> Result<(), Refusal> {
     if number == 0 {
         return Ok(());
     }
-    Err(Refusal::of(number).expect("the library gives the numbers of document 01"))
+    Err(Refusal::of(number).expect("the library gives the numbers of documents 01 and 02"))
 }

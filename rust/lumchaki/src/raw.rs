@@ -18,7 +18,7 @@ pub fn open(rule: u32, vessels: u32) -> Opened {
     unsafe { ffi::lumchaki_open(rule, vessels) }
 }
 
-/// Transfers weight from one vessel to another.
+/// Transfers weight from one vessel to another. What is born was milled `age` minutes before.
 pub fn transfer(head: Head, table: &mut [u32], t: Transfer) -> Transferred {
     // SAFETY: the table is one slice, lent for writing.
     unsafe {
@@ -30,6 +30,7 @@ pub fn transfer(head: Head, table: &mut [u32], t: Transfer) -> Transferred {
             t.destination,
             t.minute,
             t.weight,
+            t.age,
         )
     }
 }
@@ -114,7 +115,7 @@ pub fn name_number(sheet: &[u8], vessel: u32) -> u32 {
     unsafe { ffi::lumchaki_name_number(sheet.as_ptr(), sheet.len(), vessel) }
 }
 
-/// Writes a sheet: 8 bytes for each name, 4 numbers for each movement.
+/// Writes a sheet: 8 bytes for each name, 5 numbers for each movement.
 pub fn write(rule: u32, vessels: u32, names: &[u8], numbers: &[u32], out: &mut [u8]) -> u32 {
     // SAFETY: names, numbers and out are three slices that do not overlap.
     unsafe {

@@ -1,7 +1,7 @@
 //! The movement sheet: read, asked, written, run.
 
 use crate::{accept, raw};
-use calls::{Head, Refusal, Transfer, MOVEMENT_BYTES, SHEET_HEADER};
+use calls::{Head, Refusal, Transfer, MOVEMENT_BYTES, MOVEMENT_NUMBERS, SHEET_HEADER};
 
 /// What a sheet says of itself.
 #[derive(Clone, Copy, Debug, PartialEq, Eq)]
@@ -37,7 +37,8 @@ pub struct Stop {
 /// Reads a sheet and checks all of it.
 ///
 /// # Errors
-/// The refusals 14, 2, 3, 15, 16, 17, then for each movement 18 and 5, the first that applies.
+/// The refusals 14, 2, 3, 15, 16, 17, then 5 of each movement, the first that applies. Any age can be
+/// read: one above its minute stops the run.
 pub fn read(sheet: &[u8]) -> Result<Summary, Refusal> {
     let answer = raw::read(sheet);
     accept(answer.number)?;
@@ -48,7 +49,7 @@ pub fn read(sheet: &[u8]) -> Result<Summary, Refusal> {
     })
 }
 
-/// A movement of a sheet by its index, from 0.
+/// A movement of a sheet by its index, from 0, with its age.
 ///
 /// # Errors
 /// Those of [`read`], then [`Refusal::PastEnd`].
@@ -60,6 +61,7 @@ pub fn movement(sheet: &[u8], index: u32) -> Result<Transfer, Refusal> {
         destination: answer.destination,
         minute: answer.minute,
         weight: answer.weight,
+        age: answer.age,
     })
 }
 
@@ -72,11 +74,11 @@ pub fn name(sheet: &[u8], vessel: u32) -> Result<&[u8], Refusal> {
     Ok(raw::name(sheet, vessel))
 }
 
-/// Writes a sheet of 8 bytes for each name, filled up with zeros, and 4 numbers for each movement:
-/// source, destination, minute, weight. The part of `out` that was written comes back.
+/// Writes a sheet of 8 bytes for each name, filled up with zeros, and 5 numbers for each movement:
+/// source, destination, minute, weight, age. The part of `out` that was written comes back.
 ///
 /// # Errors
-/// The refusals 2, 3, 16, 15, 17, 5 and 19, the first that applies.
+/// The refusals 2, 3, 16, 15, 17, then 18 and 5 of each movement, and 19, the first that applies.
 pub fn write<'o>(
     rule: u32,
     vessels: u32,
@@ -85,7 +87,7 @@ pub fn write<'o>(
     out: &'o mut [u8],
 ) -> Result<&'o [u8], Refusal> {
     accept(raw::write(rule, vessels, names, numbers, out))?;
-    let movements = numbers.len() / 4;
+    let movements = numbers.len() / MOVEMENT_NUMBERS;
     Ok(&out[..SHEET_HEADER + names.len() + MOVEMENT_BYTES * movements])
 }
 

@@ -3,18 +3,18 @@
 use crate::book;
 use crate::transfer::{transfer_known, Scratch};
 use calls::{
-    Head, Movement, Ran, Reading, Refusal, Transfer, MOVEMENTS, MOVEMENT_BYTES, NAME_BYTES,
-    SHEET_HEADER,
+    Head, Movement, Ran, Reading, Refusal, Transfer, MOVEMENTS, MOVEMENT_BYTES, MOVEMENT_NUMBERS,
+    NAME_BYTES, SHEET_HEADER,
 };
 
 const MARK: &[u8; 4] = b"PROV";
 
-fn u16_at(bytes: &[u8], at: usize) -> u32 {
-    u32::from(bytes[at]) + 256 * u32::from(bytes[at + 1])
+fn u16_at(bytes: &[u8], at: usize) -> u16 {
+    u16::from(bytes[at]) + 256 * u16::from(bytes[at + 1])
 }
 
 fn u32_at(bytes: &[u8], at: usize) -> u32 {
-    u16_at(bytes, at) + 65_536 * u16_at(bytes, at + 2)
+    u32::from(u16_at(bytes, at)) + 65_536 * u32::from(u16_at(bytes, at + 2))
 }
 
 fn put_u32(out: &mut [u8], at: usize, number: u32) {
@@ -47,6 +47,7 @@ fn movement_at(sheet: &[u8], vessels: u32, index: usize) -> Transfer {
         destination: sheet[at + 1].into(),
         minute: u32_at(sheet, at + 4),
         weight: u32_at(sheet, at + 8),
+        age: u16_at(sheet, at + 2),
     }
 }
 
@@ -54,7 +55,8 @@ fn check(sheet: &[u8]) -> Result<Reading, Refusal> {
     if sheet.len() < SHEET_HEADER || sheet[..4] != *MARK {
         return Err(Refusal::NoSheet);
     }
-    let (rule, vessels, movements) = (u16_at(sheet, 4), u16_at(sheet, 6), u32_at(sheet, 8));
+    let (rule, vessels) = (u16_at(sheet, 4).into(), u16_at(sheet, 6).into());
+    let movements = u32_at(sheet, 8);
     book::open(rule, vessels)?;
     if movements == 0 || movements > MOVEMENTS as u32 {
         return Err(Refusal::Movements);
@@ -67,9 +69,6 @@ fn check(sheet: &[u8]) -> Result<Reading, Refusal> {
     }
     check_names(&sheet[SHEET_HEADER..first as usize])?;
     for movement in sheet[first as usize..].chunks_exact(MOVEMENT_BYTES) {
-        if u16_at(movement, 2) != 0 {
-            return Err(Refusal::Filler);
-        }
         if u32::from(movement[0].max(movement[1])) >= vessels {
             return Err(Refusal::NoVessel);
         }
@@ -106,6 +105,7 @@ pub fn movement(sheet: &[u8], index: u32) -> Movement {
         destination: movement.destination,
         minute: movement.minute,
         weight: movement.weight,
+        age: movement.age,
     }
 }
 
@@ -129,37 +129,41 @@ pub fn write(
     out: &mut [u8],
 ) -> Result<(), Refusal> {
     book::open(rule, vessels)?;
-    if names.len() != NAME_BYTES * vessels as usize || !numbers.len().is_multiple_of(4) {
+    let (movements, odd) = numbers.as_chunks::<MOVEMENT_NUMBERS>();
+    if names.len() != NAME_BYTES * vessels as usize || !odd.is_empty() {
         return Err(Refusal::Layout);
     }
-    let movements = numbers.len() / 4;
-    if movements == 0 || movements > MOVEMENTS {
+    if movements.is_empty() || movements.len() > MOVEMENTS {
         return Err(Refusal::Movements);
     }
     check_names(names)?;
-    for m in numbers.chunks_exact(4) {
-        if m[0].max(m[1]) >= vessels {
+    for &[source, destination, _, _, age] in movements {
+        if age > u16::MAX.into() {
+            return Err(Refusal::AgeOver);
+        }
+        if source.max(destination) >= vessels {
             return Err(Refusal::NoVessel);
         }
     }
     let first = SHEET_HEADER + names.len();
-    let length = first + MOVEMENT_BYTES * movements;
+    let length = first + MOVEMENT_BYTES * movements.len();
     if out.len() < length {
         return Err(Refusal::OutputShort);
     }
     out[..4].copy_from_slice(MARK);
     out[4..6].copy_from_slice(&(rule as u16).to_le_bytes());
     out[6..8].copy_from_slice(&(vessels as u16).to_le_bytes());
-    put_u32(out, 8, movements as u32);
+    put_u32(out, 8, movements.len() as u32);
     put_u32(out, 12, SHEET_HEADER as u32);
     put_u32(out, 16, first as u32);
     put_u32(out, 20, length as u32);
     out[SHEET_HEADER..first].copy_from_slice(names);
-    for (index, m) in numbers.chunks_exact(4).enumerate() {
+    for (index, &[source, destination, minute, weight, age]) in movements.iter().enumerate() {
         let at = first + MOVEMENT_BYTES * index;
-        out[at..at + 4].copy_from_slice(&[m[0] as u8, m[1] as u8, 0, 0]);
-        put_u32(out, at + 4, m[2]);
-        put_u32(out, at + 8, m[3]);
+        out[at..at + 2].copy_from_slice(&[source as u8, destination as u8]);
+        out[at + 2..at + 4].copy_from_slice(&(age as u16).to_le_bytes());
+        put_u32(out, at + 4, minute);
+        put_u32(out, at + 8, weight);
     }
     Ok(())
 }

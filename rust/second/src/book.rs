@@ -98,6 +98,9 @@ impl Book {
         if t.minute < self.last {
             return Some(Refusal::ClockBack);
         }
+        if t.minute < t.age.into() {
+            return Some(Refusal::BeforeTime);
+        }
         if self.balances[destination] + u64::from(t.weight) > TOP.into() {
             return Some(Refusal::Overfull);
         }
@@ -148,7 +151,7 @@ impl Book {
         if residue > 0 {
             moved.born = residue;
             to.receive(Lot {
-                birth: t.minute,
+                birth: t.minute - u32::from(t.age),
                 receipt: self.receipts,
                 origin: t.source,
                 weight: residue,

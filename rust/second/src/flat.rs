@@ -140,16 +140,17 @@ impl Engine for Second {
             let movement = sheet.movements.get(index as usize);
             movement.copied().ok_or(Refusal::PastEnd)
         });
-        let (number, [source, destination, minute, weight]) = match found {
-            Ok(movement) => (0, movement.numbers()),
-            Err(refusal) => (refusal.number(), [0; 4]),
+        let (number, movement) = match found {
+            Ok(movement) => (0, movement),
+            Err(refusal) => (refusal.number(), Transfer::new([0; 4])),
         };
         Movement {
             number,
-            source,
-            destination,
-            minute,
-            weight,
+            source: movement.source,
+            destination: movement.destination,
+            minute: movement.minute,
+            weight: movement.weight,
+            age: movement.age,
         }
     }
 

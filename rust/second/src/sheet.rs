@@ -1,7 +1,10 @@
 //! The sheet: from bytes and back, and its run.
 
 use crate::book::Book;
-use calls::{Refusal, Transfer, MOVEMENTS, MOVEMENT_BYTES, NAME_BYTES, SHEET_HEADER, VESSELS};
+use calls::{
+    Refusal, Transfer, MOVEMENTS, MOVEMENT_BYTES, MOVEMENT_NUMBERS, NAME_BYTES, SHEET_HEADER,
+    VESSELS,
+};
 
 const MARK: [u8; 4] = *b"PROV";
 
@@ -34,8 +37,8 @@ impl Fields<'_> {
         Some(*field)
     }
 
-    fn u16(&mut self) -> Option<u32> {
-        self.array().map(|b| u16::from_le_bytes(b).into())
+    fn u16(&mut self) -> Option<u16> {
+        self.array().map(u16::from_le_bytes)
     }
 
     fn u32(&mut self) -> Option<u32> {
@@ -102,8 +105,8 @@ impl Sheet {
         if fields.array() != Some(MARK) {
             return Err(Refusal::NoSheet);
         }
-        let rule = fields.u16().ok_or(short)?;
-        let vessels = fields.u16().ok_or(short)?;
+        let rule = fields.u16().ok_or(short)?.into();
+        let vessels = fields.u16().ok_or(short)?.into();
         check_rule_and_vessels(rule, vessels)?;
         let vessels = vessels as usize;
         let movements = fields.u32().ok_or(short)? as usize;
@@ -131,13 +134,12 @@ impl Sheet {
         }
         check_names(&sheet.names)?;
         for _ in 0..movements {
-            let [source, destination, filler @ ..] = fields.array::<4>().ok_or(Refusal::Layout)?;
-            if filler != [0, 0] {
-                return Err(Refusal::Filler);
-            }
+            let [source, destination] = fields.array().ok_or(Refusal::Layout)?;
+            // In the order of the bytes.
             let movement = Transfer {
                 source: source.into(),
                 destination: destination.into(),
+                age: fields.u16().ok_or(Refusal::Layout)?,
                 minute: fields.u32().ok_or(Refusal::Layout)?,
                 weight: fields.u32().ok_or(Refusal::Layout)?,
             };
@@ -147,7 +149,7 @@ impl Sheet {
         Ok(sheet)
     }
 
-    /// The sheet of 8 bytes for each name and 4 numbers for each movement.
+    /// The sheet of 8 bytes for each name and 5 numbers for each movement.
     pub fn of_parts(
         rule: u32,
         vessels: u32,
@@ -156,21 +158,24 @@ impl Sheet {
     ) -> Result<Sheet, Refusal> {
         check_rule_and_vessels(rule, vessels)?;
         let (names, odd_bytes) = names.as_chunks::<NAME_BYTES>();
-        let (movements, odd_numbers) = numbers.as_chunks::<4>();
+        let (movements, odd_numbers) = numbers.as_chunks::<MOVEMENT_NUMBERS>();
         if names.len() != vessels as usize || !odd_bytes.is_empty() || !odd_numbers.is_empty() {
             return Err(Refusal::Layout);
         }
         check_count(movements.len())?;
         check_names(names)?;
-        let movements: Vec<Transfer> = movements.iter().copied().map(Transfer::new).collect();
-        for movement in &movements {
-            check_vessels(movement, vessels as usize)?;
-        }
-        Ok(Sheet {
+        let mut sheet = Sheet {
             rule,
             names: names.to_vec(),
-            movements,
-        })
+            movements: Vec::new(),
+        };
+        for &[source, destination, minute, weight, age] in movements {
+            let age = u16::try_from(age).or(Err(Refusal::AgeOver))?;
+            let movement = Transfer::new([source, destination, minute, weight]).aged(age);
+            check_vessels(&movement, vessels as usize)?;
+            sheet.movements.push(movement);
+        }
+        Ok(sheet)
     }
 
     /// The bytes of the sheet, which is one that can be read.
@@ -190,7 +195,8 @@ impl Sheet {
         bytes.extend(counts.into_iter().flat_map(|n| (n as u32).to_le_bytes()));
         bytes.extend(self.names.iter().flatten());
         for m in &self.movements {
-            bytes.extend([m.source as u8, m.destination as u8, 0, 0]);
+            bytes.extend([m.source as u8, m.destination as u8]);
+            bytes.extend(m.age.to_le_bytes());
             bytes.extend(m.minute.to_le_bytes());
             bytes.extend(m.weight.to_le_bytes());
         }

@@ -8,7 +8,8 @@ use std::collections::BTreeMap;
 pub struct WeighBook {
     /// W: the weight in each vessel.
     pub weights: Vec<u64>,
-    /// B: the weight born, by vessel and minute. What was never born has no entry.
+    /// B: the weight born, by vessel and minute of milling, t less the age. What was never born has
+    /// no entry.
     pub births: BTreeMap<(u32, u32), u64>,
     /// The minute of the last accepted transfer.
     pub last: u32,
@@ -27,7 +28,7 @@ impl WeighBook {
         }
     }
 
-    /// Feeds it a transfer; its answer is 0 or the first of 5 to 10 that applies.
+    /// Feeds it a transfer; its answer is 0 or the first of 5 to 8, 21, 9 and 10 that applies.
     pub fn feed(&mut self, t: Transfer) -> u32 {
         match self.weigh(t) {
             Ok(()) => 0,
@@ -44,6 +45,8 @@ impl WeighBook {
         refuse_if(t.source == t.destination, Refusal::SameVessel)?;
         refuse_if(t.weight == 0, Refusal::NoWeight)?;
         refuse_if(t.minute < self.last, Refusal::ClockBack)?;
+        let age = u32::from(t.age);
+        refuse_if(age > t.minute, Refusal::BeforeTime)?;
         let filled = self.weights[destination] + weight;
         refuse_if(filled > TOP.into(), Refusal::Overfull)?;
         refuse_if(self.accepted == TOP, Refusal::TallyFull)?;
@@ -51,7 +54,7 @@ impl WeighBook {
         self.weights[source] -= weight - born;
         self.weights[destination] = filled;
         if born > 0 {
-            *self.births.entry((t.source, t.minute)).or_default() += born;
+            *self.births.entry((t.source, t.minute - age)).or_default() += born;
         }
         self.last = t.minute;
         self.accepted += 1;

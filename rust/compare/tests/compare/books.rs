@@ -107,12 +107,16 @@ fn calls_on_books_that_add_up() {
                 reports(&mut pair, &mut random, head, &table);
             }
         }
-        pair.tally
-            .print(&format!("books that add up, {} {covered:?}", pair.label()));
+        let ages = &pair.ages;
+        pair.tally.print(&format!(
+            "books that add up, {} {covered:?} {ages:?}",
+            pair.label()
+        ));
         covered.expect(500);
+        ages.expect(&[0, 5, 6, 7, 8, 9, 10, 11], 50);
         // A book that adds up is never off, except on a table too short to hold one.
         pair.tally
-            .expect("transfer", &[0, 1, 5, 6, 7, 8, 9, 10, 11], 100);
+            .expect("transfer", &[0, 1, 5, 6, 7, 8, 9, 10, 11, 21], 100);
         pair.tally.expect("held", &[0, 1, 5, 13], 100);
         pair.tally.expect("spread", &[0, 1, 5, 12, 13], 100);
         pair.tally.expect("whole", &[0, 1, 13], 100);

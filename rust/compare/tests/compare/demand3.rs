@@ -13,7 +13,11 @@ struct Covered {
     accepted: u32,
     even: u32,
     births: u32,
+    /// Births entered under an origin and minute that had some from a transfer at another minute.
+    added: u32,
     forecasts: u32,
+    /// Forecasts in which an age above the minute was met.
+    forecasts_of_21: u32,
     full: u32,
 }
 
@@ -47,6 +51,7 @@ fn follow(
     let mut weighed = WeighBook::new(vessels);
     let mut even = 0;
     let mut numbers = Vec::new();
+    let mut born_at = BTreeMap::new();
     for call in list {
         match *call {
             Call::Move(transfer) => {
@@ -55,7 +60,13 @@ fn follow(
                 numbers.push(answer.number);
                 if answer.number == 0 {
                     even += u32::from(answer.even());
-                    covered.births += u32::from(answer.born > 0);
+                    if answer.born > 0 {
+                        let minute = transfer.minute;
+                        let birth = (transfer.source, minute - u32::from(transfer.age));
+                        let earlier = born_at.insert(birth, minute);
+                        covered.added += u32::from(earlier.is_some_and(|m| m != minute));
+                        covered.births += 1;
+                    }
                     assert_eq!(weighed.feed(transfer), 0);
                     let moved = followed.transfer(transfer).expect("accepted");
                     assert_eq!(
@@ -123,24 +134,30 @@ fn laws_of(subject: &'static dyn Engine, rounds: u32) {
             let forecast = forecast(vessels, &list);
             assert!(numbers.iter().all(|n| *n == forecast), "{list:?}");
             covered.forecasts += 1;
+            covered.forecasts_of_21 += u32::from(forecast.contains(&21));
         }
         covered.lists += 1;
     }
+    let ages = &pair.ages;
     pair.tally
-        .print(&format!("demand 3, {} {covered:?}", pair.label()));
+        .print(&format!("demand 3, {} {covered:?} {ages:?}", pair.label()));
     let Covered {
         lists,
         transfers,
         accepted,
         even,
         births,
+        added,
         forecasts,
+        forecasts_of_21,
         full,
     } = covered;
     assert!(lists >= 1_000 && transfers > 50_000 && accepted > 20_000);
     assert!(even > 5_000 && births > 5_000 && forecasts > 300 && full > 500);
+    assert!(added > 1_000 && forecasts_of_21 > 100);
+    ages.expect(&[0, 5, 6, 7, 8, 9, 11], 100);
     pair.tally
-        .expect("transfer", &[0, 1, 5, 6, 7, 8, 9, 11], 100);
+        .expect("transfer", &[0, 1, 5, 6, 7, 8, 9, 11, 21], 100);
     pair.tally.expect("held", &[0, 1, 5, 13], 100);
     pair.tally.expect("spread", &[0, 1, 5, 12, 13], 100);
     pair.tally.expect("whole", &[0, 1, 13], 100);

@@ -1,6 +1,6 @@
 //! The listing program against the second implementation's listing, byte for byte.
 
-use compare::{heaviest, room, sheet, working_day, Random};
+use compare::{aged_day, heaviest, room, sheet, working_day, Random};
 use second::listing;
 use std::io::{ErrorKind, Read, Write};
 use std::path::{Path, PathBuf};
@@ -51,6 +51,7 @@ fn list(program: &Path, input: &[u8], part: usize) -> Vec<u8> {
 struct Covered {
     full: u32,
     stopped: u32,
+    stopped_at_21: u32,
     refused: u32,
 }
 
@@ -68,6 +69,7 @@ impl Covered {
             self.refused += 1;
         } else if expected.contains("stopped") {
             self.stopped += 1;
+            self.stopped_at_21 += u32::from(expected.ends_with(" at 21\n"));
         } else {
             self.full += 1;
         }
@@ -95,6 +97,8 @@ fn program_lists_what_the_second_implementation_lists() {
         let day = working_day(&mut random, rule).bytes();
         assert_eq!(day.len(), LONGEST);
         covered.check(&program, &day, 4_000);
+        let aged_day = aged_day(&mut random, rule).bytes();
+        covered.check(&program, &aged_day, 4_000);
         // Longer than the longest sheet, with a header that agrees with its own length or not.
         for more in [1, 11, 12, 100, LONGEST, 200_000] {
             let mut longer = day.clone();
@@ -119,4 +123,5 @@ fn program_lists_what_the_second_implementation_lists() {
     let text = format!("listing program: {covered:?}\n");
     let _ = std::io::stdout().write_all(text.as_bytes());
     assert!(covered.full > 500 && covered.stopped > 300 && covered.refused > 700);
+    assert!(covered.stopped_at_21 > 50);
 }

@@ -48,10 +48,13 @@ fn runs_of(subject: &'static dyn Engine) {
     for _ in 0..4_000 {
         follow(&mut pair, &mut random, &mut stops);
     }
-    pair.tally
-        .print(&format!("runs by hand, {} {stops:?}", pair.label()));
+    let ages = &pair.ages;
+    pair.tally.print(&format!(
+        "runs by hand, {} {stops:?} {ages:?}",
+        pair.label()
+    ));
     assert!(stops.none > 500 && stops.at_once > 100 && stops.later > 1_000);
-    pair.tally.expect("run", &[0, 6, 7, 8, 9, 11], 20);
+    pair.tally.expect("run", &[0, 6, 7, 8, 9, 11, 21], 20);
 }
 
 #[test]

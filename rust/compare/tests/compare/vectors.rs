@@ -1,4 +1,4 @@
-//! The worked vectors: K1 to K10 of document 01, and those that K1 to K10 cannot see.
+//! The worked vectors: K1 to K10 of document 01, those that K1 to K10 cannot see, and ages.
 
 use calls::{Engine, Head, Piece, Refusal, Transfer, TOP};
 use compare::subjects;
@@ -65,6 +65,58 @@ const UNSEEN: [Vector; 4] = [
     ),
 ];
 
+/// Movements of three vessels, and the pieces they leave under each rule.
+type AgedVector = (&'static [Transfer], [&'static [[u32; 4]]; 4]);
+
+/// Ages, worked by hand.
+const AGED: [AgedVector; 3] = [
+    // Vessel 0 holds 4 g born at 8, then 3 g that came later and were milled before, at 5. The two
+    // orders by birth are those by receipt reversed.
+    (
+        &[
+            Transfer::new([1, 0, 10, 4]).aged(2),
+            Transfer::new([2, 0, 12, 3]).aged(7),
+            Transfer::new([0, 1, 12, 5]),
+        ],
+        [
+            &[[0, 2, 5, 2], [1, 1, 8, 4], [1, 2, 5, 1]],
+            &[[0, 1, 8, 2], [1, 2, 5, 3], [1, 1, 8, 2]],
+            &[[0, 1, 8, 2], [1, 2, 5, 3], [1, 1, 8, 2]],
+            &[[0, 2, 5, 2], [1, 1, 8, 4], [1, 2, 5, 1]],
+        ],
+    ),
+    // Born alike at 6, from another minute and age: rule 2 takes the earlier received first, rule 3
+    // the later.
+    (
+        &[
+            Transfer::new([1, 0, 10, 4]).aged(4),
+            Transfer::new([2, 0, 12, 3]).aged(6),
+            Transfer::new([0, 1, 12, 5]),
+        ],
+        [
+            &[[0, 2, 6, 2], [1, 1, 6, 4], [1, 2, 6, 1]],
+            &[[0, 1, 6, 2], [1, 2, 6, 3], [1, 1, 6, 2]],
+            &[[0, 2, 6, 2], [1, 1, 6, 4], [1, 2, 6, 1]],
+            &[[0, 1, 6, 2], [1, 2, 6, 3], [1, 1, 6, 2]],
+        ],
+    ),
+    // The second movement hands on 2 g, whose birth its age leaves alone, and 3 g are born at 0: its
+    // age is its minute. The third splits; its age says nothing, as nothing is born.
+    (
+        &[
+            Transfer::new([1, 0, 5, 2]),
+            Transfer::new([0, 2, 9, 5]).aged(9),
+            Transfer::new([2, 1, 9, 4]).aged(3),
+        ],
+        [
+            &[[2, 0, 0, 1], [1, 1, 5, 2], [1, 0, 0, 2]],
+            &[[2, 1, 5, 1], [1, 0, 0, 3], [1, 1, 5, 1]],
+            &[[2, 1, 5, 1], [1, 0, 0, 3], [1, 1, 5, 1]],
+            &[[2, 0, 0, 1], [1, 1, 5, 2], [1, 0, 0, 2]],
+        ],
+    ),
+];
+
 /// An open book on a table of 16 places, and the engine that keeps it.
 struct Desk {
     engine: &'static dyn Engine,
@@ -85,9 +137,13 @@ impl Desk {
         }
     }
 
-    /// Transfers and gives the number.
+    /// Transfers at age 0 and gives the number.
     fn transfer(&mut self, numbers: [u32; 4]) -> u32 {
-        let transfer = Transfer::new(numbers);
+        self.make(Transfer::new(numbers))
+    }
+
+    /// Transfers and gives the number.
+    fn make(&mut self, transfer: Transfer) -> u32 {
         let answer = self.engine.transfer(self.head, &mut self.table, transfer);
         self.head = answer.head;
         self.even += u32::from(answer.even());
@@ -115,12 +171,17 @@ fn engines() -> Vec<&'static dyn Engine> {
     engines
 }
 
-fn six_movements(rule: u32) -> Sheet {
+/// A sheet of three vessels.
+fn sheet_of(rule: u32, movements: impl IntoIterator<Item = Transfer>) -> Sheet {
     Sheet {
         rule,
         names: vec![*b"SILO\0\0\0\0", *b"LEAVEN\0\0", *b"MIXER\0\0\0"],
-        movements: SIX.into_iter().map(Transfer::new).collect(),
+        movements: movements.into_iter().collect(),
     }
+}
+
+fn six_movements(rule: u32) -> Sheet {
+    sheet_of(rule, SIX.map(Transfer::new))
 }
 
 #[test]
@@ -209,6 +270,108 @@ fn what_k1_to_k10_cannot_see() {
             assert_eq!(desk.pieces(), pieces, "{} rule {rule}", engine.label());
         }
     }
+}
+
+#[test]
+fn ages() {
+    for engine in engines() {
+        for (movements, left) in AGED {
+            for (rule, pieces) in (0..).zip(left) {
+                let mut desk = Desk::open(engine, rule, 3);
+                for &movement in movements {
+                    assert_eq!(desk.make(movement), 0);
+                }
+                assert_eq!(desk.pieces(), pieces, "{} rule {rule}", engine.label());
+                let sheet = sheet_of(rule, movements.iter().copied()).bytes();
+                let mut table = [0; 64];
+                let ran = engine.run(&sheet, &mut table);
+                assert_eq!((ran.number, ran.index), (0, movements.len() as u32));
+                assert_eq!((ran.head, table), (desk.head, desk.table));
+            }
+        }
+    }
+}
+
+/// Two transfers from one vessel with another minute and age, and equal births.
+#[test]
+fn equal_births_add_up() {
+    let mut book = WeighBook::new(3);
+    for movement in AGED[1].0 {
+        assert_eq!(book.feed(*movement), 0);
+    }
+    let again = Transfer::new([1, 2, 15, 10]).aged(9);
+    assert_eq!(book.feed(again), 0);
+    // Vessel 1 had 5 g; 5 more are born at 15 - 9, beside the 4 that were born at 10 - 4.
+    let births: Vec<_> = book.births.into_iter().collect();
+    assert_eq!(births, [((1, 6), 9), ((2, 6), 3)]);
+}
+
+/// Age = minute is fine, one more is 21: after 8, before 9 to 11, and also where nothing is born.
+#[test]
+fn milled_before_time() {
+    let before_time = Refusal::BeforeTime.number();
+    let clock_back = Refusal::ClockBack.number();
+    for engine in engines() {
+        for rule in 0..4 {
+            let mut desk = Desk::open(engine, rule, 3);
+            let heavy = Transfer::new([0, 1, 5, TOP - 1]);
+            assert_eq!(desk.make(heavy.aged(6)), before_time);
+            assert_eq!(desk.make(heavy.aged(5)), 0);
+            assert_eq!(desk.pieces(), [[1, 0, 0, TOP - 1]]);
+            let nothing_born = Transfer::new([1, 2, 5, 1]);
+            assert_eq!(desk.make(nothing_born.aged(6)), before_time);
+            let overfull = Transfer::new([2, 1, 5, 2]);
+            assert_eq!(desk.make(overfull.aged(6)), before_time);
+            assert_eq!(desk.make(overfull.aged(5)), Refusal::Overfull.number());
+            let back = Transfer::new([1, 2, 4, 1]);
+            assert_eq!(desk.make(back.aged(u16::MAX)), clock_back);
+            // The largest age, where it is above the minute, the minute, and far below it.
+            let late = |minute| Transfer::new([0, 2, minute, 1]).aged(u16::MAX);
+            assert_eq!(desk.make(late(65_534)), before_time);
+            assert_eq!(desk.make(late(65_535)), 0);
+            assert_eq!(desk.make(late(TOP)), 0);
+            assert_eq!(
+                desk.pieces()[1..],
+                [[2, 0, 0, 1], [2, 0, TOP - 65_535, 1]],
+                "{}",
+                engine.label()
+            );
+        }
+    }
+}
+
+/// A movement's bytes 2 and 3 are its age, low first, and the writer puts them there.
+#[test]
+fn bytes_of_an_age() {
+    let movement = Transfer::new([1, 2, 0x2345, 7]).aged(0x1234);
+    let bytes = [1, 2, 0x34, 0x12, 0x45, 0x23, 0, 0, 7, 0, 0, 0];
+    let sheet = sheet_of(2, [movement]).bytes();
+    assert_eq!(sheet[48..], bytes);
+    for engine in engines() {
+        let mut out = [0; 60];
+        let names = &sheet[24..48];
+        let number = engine.write(2, 3, names, &movement.numbers(), &mut out);
+        assert_eq!((number, &out[..]), (0, &sheet[..]), "{}", engine.label());
+        let read = engine.movement(&sheet, 0);
+        let numbers = (read.source, read.destination, read.minute, read.weight);
+        assert_eq!((read.number, numbers), (0, (1, 2, 0x2345, 7)));
+        assert_eq!(read.age, 0x1234);
+        let mut table = [0; 64];
+        assert_eq!(engine.run(&sheet, &mut table).number, 0);
+        assert_eq!(table[..4], [2, 1, 0x2345 - 0x1234, 7]);
+    }
+}
+
+#[test]
+fn listing_of_ages() {
+    let [early, late, last] = AGED[0].0 else {
+        panic!("three movements")
+    };
+    let before_time = last.aged(13);
+    let text = "vessels 3 rule 2 accepted 2 pieces 2 even 0\n\
+                0 1 8 4\n0 2 5 3\nstopped 2 at 21\n";
+    let sheet = sheet_of(2, [*early, *late, before_time]);
+    assert_eq!(listing(&sheet.bytes()), text);
 }
 
 #[test]

@@ -1,6 +1,6 @@
 //! The typed face of the wrapper against the bare answers under it.
 
-use calls::{Head, Refusal};
+use calls::{Head, Refusal, Transfer};
 use compare::{book, foul_book, near, room, sheet, transfer_for, Random, FOUL_CLAUSES};
 use lumchaki::raw;
 use std::collections::BTreeMap;
@@ -84,7 +84,7 @@ fn books() {
             assert_eq!(report, &bare_numbers[..(vessels * vessels) as usize]);
         }
     }
-    for number in [0, 1, 4, 5, 6, 7, 8, 9, 10, 11, 12, 13] {
+    for number in [0, 1, 4, 5, 6, 7, 8, 9, 10, 11, 12, 13, 21] {
         assert!(seen.0.get(&number) > Some(&20), "{number}: {:?}", seen.0);
     }
 }
@@ -93,7 +93,7 @@ fn books() {
 fn sheets() {
     let mut random = Random::new(42);
     let mut seen = Seen::default();
-    let mut stops = 0;
+    let (mut stops, mut aged) = (0, 0);
     for round in 0..6_000 {
         let mut bytes = sheet(&mut random, 10).bytes();
         if round % 2 == 1 {
@@ -113,7 +113,8 @@ fn sheets() {
         assert_eq!(seen.number(&result), bare.number);
         if let Ok(m) = result {
             let fields = [bare.source, bare.destination, bare.minute, bare.weight];
-            assert_eq!(m.numbers(), fields);
+            assert_eq!(m, Transfer::new(fields).aged(bare.age));
+            aged += u32::from(m.age > 0);
         }
         let result = lumchaki::name(&bytes, vessel);
         assert_eq!(seen.number(&result), raw::name_number(&bytes, vessel));
@@ -148,8 +149,8 @@ fn sheets() {
             }
         }
     }
-    assert!(stops > 500);
-    for number in [0, 1, 2, 3, 5, 14, 15, 16, 17, 18, 20] {
+    assert!(stops > 500 && aged > 200);
+    for number in [0, 1, 2, 3, 5, 14, 15, 16, 17, 20] {
         assert!(seen.0.get(&number) > Some(&20), "{number}: {:?}", seen.0);
     }
 }
@@ -157,13 +158,16 @@ fn sheets() {
 #[test]
 fn writing() {
     let names = b"A\0\0\0\0\0\0\0B\0\0\0\0\0\0\0";
-    let numbers = [0, 1, 2, 3, 1, 0, 2, 1];
+    let mut numbers = [0, 1, 2, 3, 0, 1, 0, 2, 1, 65_535];
     let mut out = [0xee; 70];
     let sheet = lumchaki::write(1, 2, names, &numbers, &mut out).expect("a good sheet");
     assert_eq!(sheet.len(), 64);
     let second = lumchaki::movement(sheet, 1).expect("two movements");
-    assert_eq!(second.numbers(), [1, 0, 2, 1]);
+    assert_eq!(second, Transfer::new([1, 0, 2, 1]).aged(65_535));
     assert_eq!(lumchaki::name(sheet, 1), Ok(&b"B"[..]));
     let short = lumchaki::write(1, 2, names, &numbers, &mut out[..63]);
     assert_eq!(short, Err(Refusal::OutputShort));
+    numbers[9] += 1;
+    let over = lumchaki::write(1, 2, names, &numbers, &mut out);
+    assert_eq!(over, Err(Refusal::AgeOver));
 }
