@@ -92,7 +92,7 @@ module _ (h : Head) (t : List ℕ) (x : Transfer) (keys spare lifted : List ℕ)
 
     -- what the move asks
     pub in-time : x .age ≤ x .minute
-    in-time = fitting .milled
+    in-time = fitting .in-time
 
     decided : numberOf h t (post x) ≡ cond full-now 11 0
     decided = number-parts ∙ rw passes
