@@ -1,15 +1,17 @@
 -- THE AGE OF WHAT IS BORN. `age-zero`: a transfer of age 0 gives and leaves what the transfer without an age gave and left, on any head and any
--- table. `before-time`: past 5 to 8 an age above the minute is 21, whatever the balances are, so also where nothing would be born. `aged`: what ages do under rules 2 and 3, where births no longer follow the order of receipt, on small cases. `one-entry`: births of
--- one vessel at different minutes, with ages that bring them to the same minute, are one entry of the weigh book.
+-- table; `age-zero-weighed`: and so it is to the weigh book. `before-time`: past 5 to 8 an age above the minute is 21, whatever the balances
+-- are, so also where nothing would be born. `aged`: what ages do under rules 2 and 3, where births no longer follow the order of receipt, on
+-- small cases. `one-entry`: births of one vessel at different minutes, with ages that bring them to the same minute, are one entry of the
+-- weigh book.
 -- Assumes nothing.
-use mathlib.Core.Path.{_≡_, refl}
+use mathlib.Core.Path.{_≡_, refl, _∙_}
 use mathlib.Core.Logic.{_≢_}
 use mathlib.Core.List.{List, [], _∷_, map}
 use Prim.Native.Nat.{ℕ, zero, suc, _≤_, _<_}
 use native.Mathlib.Nat.{sub-zero}
 use native.Mathlib.Omega.{arith}
 use lib.ListN.{replicate}
-use borrow.Author.Tests.{lt-leb, lt-ltb, le-ltb, ne-eqb}
+use borrow.Author.Tests.{lt-ltb, le-ltb}
 use Rattle.table.specs.Table.{piecesOf, flat, placesOf}
 use Rattle.picking.specs.Selection.{precedes}
 use Rattle.picking.specs.Taking.{takeUpTo, taken}
@@ -20,9 +22,10 @@ use Rattle.book.specs.Head.{tab, balancesOf, allFit, same, addsUp, openi
 use Rattle.book.specs.Transfer.{transferOf, Standing, transferChecks, takes}
 use Rattle.book.specs.Calls.{post, meaning}
 use Rattle.book.specs.Memory.{outcome, bookChecks, numberOf, callOn}
-use Rattle.book.specs.WeighBook.{blank, weighNumber, feed}
+use Rattle.book.specs.WeighBook.{WeighBook, blank, ofWeigh, weighed, weighNumber, feed}
 use Rattle.book.specs.Lists.{Journal, callsOn}
-use Rattle.book.specs.Former.{unaged, formerMeaning, formerNumber, formerOn}
+use Rattle.book.specs.Former.{unaged, formerChecks, formerMeaning, formerNumber, formerOn, formerWeighed}
+use Rattle.book.proofs.Checks.{past-clock}
 
 module _ (h : Head) (t : List ℕ) (s d m q : ℕ) where
   same-number : numberOf h t (post (unaged s d m q)) ≡ formerNumber h t s d m q
@@ -37,12 +40,15 @@ module _ (h : Head) (t : List ℕ) (s d m q : ℕ) where
       go zero = rw sub-zero
       go (suc n) = refl
 
+pub age-zero-weighed : (w : WeighBook) (s d m q : ℕ)
+    → (weighNumber w (post (unaged s d m q)) ≡ first (formerChecks (ofWeigh w) s d m q)) × (weighed w (unaged s d m q) ≡ formerWeighed w s d m q)
+unfolding weighNumber transferChecks
+age-zero-weighed w s d m q = (rw (le-ltb m 0 (omega arith)), rw sub-zero)
+
 -- the balances play no part in it
 pub before-time : (g : Standing) (x : Transfer) → x .source < g .vessels → x .destination < g .vessels → x .source ≢ x .destination → x .weight ≢ 0
     → g .last ≤ x .minute → x .minute < x .age → first (transferChecks g x) ≡ 21
-unfolding transferChecks
-before-time g x source-in destination-in apart weighty forward early =
-    rw (lt-leb _ _ source-in, lt-leb _ _ destination-in, ne-eqb _ _ apart, ne-eqb _ _ weighty, le-ltb _ _ forward, lt-ltb _ _ early)
+before-time g x source-in destination-in apart weighty forward early = past-clock g x source-in destination-in apart weighty forward ∙ rw (lt-ltb _ _ early)
 
 -- transfers on a fresh book of three vessels, and the pieces that they leave
 pub record Case : Type 0 where

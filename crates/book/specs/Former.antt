@@ -1,10 +1,13 @@
 -- A transfer of document 01, as it was before it had an age: source s, destination d, minute t, weight q. There is no check 21, and what is
--- born has birth t. "Age 0 is the former meaning": `age-zero` (proofs/Ages.antt) shows that a transfer of age 0 is this one.
+-- born has birth t. "Age 0 is the former meaning": `age-zero` and `age-zero-weighed` (proofs/Ages.antt) show that a transfer of age 0 is
+-- this one, on a book and to the weigh book.
 -- Definitions only. Assumes nothing.
+use mathlib.Core.Bool.{_&&_}
 use mathlib.Core.List.{List, [], _∷_, _++_}
-use Prim.Native.Nat.{ℕ, suc, _+_}
+use Prim.Native.Nat.{ℕ, suc, _+_, _-_}
 use lib.Dec.{leb, ltb, eqb}
 use lib.ListN.{length}
+use Rattle.table.specs.Pieces.{only}
 use Rattle.table.specs.declared.Piece.{Piece}
 use Rattle.table.specs.Table.{lay, placesOf}
 use Rattle.picking.specs.declared.Move.{Move}
@@ -16,8 +19,9 @@ use Rattle.book.specs.Head.{Book, bookOf}
 use Rattle.book.specs.Transfer.{transferOf, Standing, ofBook}
 use Rattle.book.specs.Calls.{answerOf, evenOf, Meaning}
 use Rattle.book.specs.Memory.{Outcome, bookChecks, outcome}
+use Rattle.book.specs.WeighBook.{WeighBook}
 
--- the transfer of today that has age 0
+-- the transfer that has age 0
 abbrev pub unaged : ℕ → ℕ → ℕ → ℕ → Transfer
 unaged s d t q = transferOf s d t q 0
 
@@ -61,3 +65,15 @@ formerNumber h t s d m q = first (bookChecks h t ++ formerMeaning s d m q .check
 
 abbrev pub formerOn : Head → List ℕ → ℕ → ℕ → ℕ → ℕ → Outcome
 formerOn h t s d m q = outcome h t (formerMeaning s d m q) (formerNumber h t s d m q)
+
+-- the weigh book after it: births are entered under t
+abbrev pub formerWeighed : WeighBook → ℕ → ℕ → ℕ → ℕ → WeighBook
+formerWeighed w s d t q =
+    let born = q - w .weight s in
+    record {
+      vessels = w .vessels;
+      weight = λ v. (w .weight v - only (eqb s v) (q - born)) + only (eqb d v) q;
+      births = λ o m. w .births o m + only (eqb s o && eqb t m) born;
+      last = t;
+      accepted = suc (w .accepted);
+    }

@@ -2,15 +2,15 @@
 -- Assumes nothing.
 use Prim.Native.Nat.{ℕ, zero, suc, _+_, _*_, _<_, _≤_}
 use native.Mathlib.Nat.{add-zero}
-use mathlib.Core.Bool.{_||_}
-use mathlib.Core.Path.{_≡_, refl, ap, _∙_}
+use mathlib.Core.Bool.{Bool, false}
+use mathlib.Core.Path.{_≡_, refl, _∙_}
 use mathlib.Core.List.{List, [], _∷_}
 use lib.ListN.{length, getD, drop, drop-of-length-le}
 use lib.Seq.{getD-drop, drop-drop}
 use borrow.Author.Tests.{leb-false, ltb-false, lt-ltb, le-ltb}
-use lib.Dec.{T, leb}
+use lib.Dec.{T, leb, ltb}
 use native.Mathlib.Omega.{arith}
-use Rattle.refusal.specs.Numbers.{Check, _if_, orElse, first, ifZero}
+use Rattle.refusal.specs.Numbers.{Check, _if_, first, ifZero}
 use Rattle.refusal.proofs.Numbers.{named, passed, first-append, not-zero, passed-first, passed-second, neither, named-append}
 use Rattle.book.specs.Transfer.{mostAge}
 use Rattle.fields.specs.declared.entries.Entry.{Entry}
@@ -65,7 +65,7 @@ module _ (checks : Entry → List Check) (ok : (e : Entry) → T (named (checks 
     check-stop z = not-zero n (first (entriesChecks checks (drop (i + 1) (groups size f count l)))) n z ∙ one
 
   -- where none applies, none of any movement does
-  each-passed : (es : List Entry) → first (entriesChecks checks es) ≡ 0 → (i : ℕ) → i < length es → first (checks (getD es i noEntry)) ≡ 0
+  pub each-passed : (es : List Entry) → first (entriesChecks checks es) ≡ 0 → (i : ℕ) → i < length es → first (checks (getD es i noEntry)) ≡ 0
   unfolding entriesChecks
   each-passed [] z i h = absurd (omega arith)
   each-passed (e ∷ es) z zero h = passed-first (checks e) (entriesChecks checks es) (ok e) z
@@ -97,11 +97,17 @@ sound vessels e z =
 pub all-sound : (vessels : ℕ) (es : List Entry) → first (entriesChecks (givenChecks vessels) es) ≡ 0 → (i : ℕ) → i < length es → Sound vessels (getD es i noEntry)
 all-sound vessels es z i h = sound vessels (getD es i noEntry) (each-passed (givenChecks vessels) (named-given vessels) es z i h)
 
+-- a further check of each movement, before the others: where it applies to none, it changes nothing
+module _ (n : ℕ) (off : Entry → Bool) (checks : Entry → List Check) (ok : (e : Entry) → T (named (checks e))) where
+  pub further : (es : List Entry) → ((i : ℕ) → i < length es → off (getD es i noEntry) ≡ false)
+      → first (entriesChecks (λ e. (n if off e) ∷ checks e) es) ≡ first (entriesChecks checks es)
+  unfolding entriesChecks
+  further [] h = refl
+  further (e ∷ es) h =
+      let ih = further es (λ i k. h (suc i) (omega arith)) in
+      rw (h 0 (omega arith), first-append (checks e) (entriesChecks checks es) (ok e), ← ih) (first-append (checks e) _ (ok e))
+
 -- where every age fits its bytes, the writer checks what reading does
 pub ages-fit : (vessels : ℕ) (es : List Entry) → ((i : ℕ) → i < length es → getD es i noEntry .age ≤ mostAge)
     → first (entriesChecks (givenChecks vessels) es) ≡ first (entriesChecks (entryChecks vessels) es)
-unfolding entriesChecks
-ages-fit vessels [] h = refl
-ages-fit vessels (e ∷ es) h =
-    rw (le-ltb mostAge (e .age) (h 0 (omega arith)))
-    (ap (orElse (5 if (leb vessels (e .source) || leb vessels (e .destination)))) (ages-fit vessels es (λ i k. h (suc i) (omega arith))))
+ages-fit vessels es h = further 18 (λ e. ltb mostAge (e .age)) (entryChecks vessels) (named-entry vessels) es (λ i k. le-ltb _ _ (h i k))

@@ -1,5 +1,5 @@
--- The movements of a sheet: "A movement is 12 bytes: s (1), d (1), age (2), t (4), q (4)". The age is "in minutes, an unsigned 16-bit number, 0 to 65,535":
--- "The sheet's two filler bytes hold it".
+-- The movements of a sheet: "A movement is 12 bytes: s (1), d (1), filler 0 (2), t (4), q (4)", where the age, "an unsigned 16-bit number,
+-- 0 to 65,535", has the place of the filler: "The sheet's two filler bytes hold it".
 -- Definitions only. Assumes nothing.
 use mathlib.Core.Bool.{_||_}
 use mathlib.Core.List.{List, [], _∷_, _++_, flatMap}
