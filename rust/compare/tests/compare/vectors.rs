@@ -3,6 +3,7 @@
 use calls::{Engine, Head, Piece, Refusal, Transfer, TOP};
 use compare::subjects;
 use second::{listing, Second, Sheet, WeighBook};
+use std::path::Path;
 
 /// The six movements of the published table.
 const SIX: [[u32; 4]; 6] = [
@@ -381,12 +382,28 @@ fn listing_of_the_six_movements() {
     assert_eq!(listing(&six_movements(2).bytes()), text);
 }
 
+/// A sheet of the folder `examples`.
+fn example(name: &str) -> Vec<u8> {
+    let folder = Path::new(env!("CARGO_MANIFEST_DIR")).join("../../examples");
+    std::fs::read(folder.join(name)).expect("the example is checked in")
+}
+
 #[test]
 fn example_sheet_is_the_six_movements() {
-    let path = concat!(
-        env!("CARGO_MANIFEST_DIR"),
-        "/../../examples/six-movements.sheet"
-    );
-    let sheet = std::fs::read(path).expect("the example is checked in");
-    assert_eq!(sheet, six_movements(2).bytes());
+    assert_eq!(example("six-movements.sheet"), six_movements(2).bytes());
+}
+
+/// The farm's 300 g came to the silo last and were milled first, at 490 - 60: the mixer gets them first.
+#[test]
+fn example_sheet_of_old_flour() {
+    let sheet = example("old-flour.sheet");
+    let text = "vessels 4 rule 2 accepted 3 pieces 3 even 0\n\
+                2 0 480 200\n3 1 430 300\n3 0 480 300\n";
+    assert_eq!(listing(&sheet), text);
+    for engine in engines() {
+        let mut table = [0; 12];
+        assert_eq!(engine.run(&sheet, &mut table).number, 0);
+        let left = [2, 0, 480, 200, 3, 1, 430, 300, 3, 0, 480, 300];
+        assert_eq!(table, left, "{}", engine.label());
+    }
 }
