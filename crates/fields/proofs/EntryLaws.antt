@@ -52,18 +52,6 @@ module _ (checks : Entry → List Check) (ok : (e : Entry) → T (named (checks 
   unfolding entriesChecks
   next-check e es = first-append (checks e) (entriesChecks checks es) (ok e)
 
-  module _ (size : ℕ) (f : List ℕ → Entry) (count : ℕ) (l : List ℕ) (i n m : ℕ) (e : Entry) (h : i < count)
-      (is : e ≡ f (drop (size * i) l)) (says : n ≡ first (checks e))
-      (inv : first (entriesChecks checks (drop i (groups size f count l))) ≡ m) where
-    one : ifZero n (first (entriesChecks checks (drop (i + 1) (groups size f count l)))) n ≡ m
-    one = rw (says, is, ← group-at size f count l i noEntry h) (rw (next-group size f count l i noEntry h, next-check) at inv)
-
-    pub check-turn : n ≡ 0 → first (entriesChecks checks (drop (i + 1) (groups size f count l))) ≡ m
-    check-turn z = rw z at one
-
-    pub check-stop : (n ≡ 0 → ⊥) → n ≡ m
-    check-stop z = not-zero n (first (entriesChecks checks (drop (i + 1) (groups size f count l)))) n z ∙ one
-
   -- where none applies, none of any movement does
   pub each-passed : (es : List Entry) → first (entriesChecks checks es) ≡ 0 → (i : ℕ) → i < length es → first (checks (getD es i noEntry)) ≡ 0
   unfolding entriesChecks
@@ -71,12 +59,31 @@ module _ (checks : Entry → List Check) (ok : (e : Entry) → T (named (checks 
   each-passed (e ∷ es) z zero h = passed-first (checks e) (entriesChecks checks es) (ok e) z
   each-passed (e ∷ es) z (suc i) h = each-passed es (passed-second (checks e) (entriesChecks checks es) (ok e) z) i (omega arith)
 
-pub check-end : (checks : Entry → List Check) (size : ℕ) (f : List ℕ → Entry) (count : ℕ) (l : List ℕ) (i m : ℕ) → count ≤ i
-    → first (entriesChecks checks (drop i (groups size f count l))) ≡ m → 0 ≡ m
-unfolding entriesChecks
-check-end checks size f count l i m h inv =
-    let long : length (groups size f count l) ≤ i = rw length-groups h in
-    rw (drop-of-length-le (groups size f count l) long) at inv
+-- Where a scan stands before movement i: the checks of the movements left tell what those of all do.
+pub record Checked (checks : Entry → List Check) (size : ℕ) (f : List ℕ → Entry) (count : ℕ) (l : List ℕ) (i : ℕ) : Type 0 where
+  pub inside : i ≤ count
+  pub left : first (entriesChecks checks (drop i (groups size f count l))) ≡ first (entriesChecks checks (groups size f count l))
+
+module _ (checks : Entry → List Check) (size : ℕ) (f : List ℕ → Entry) (count : ℕ) (l : List ℕ) where
+  pub check-start : Checked checks size f count l 0
+  check-start = record { inside = omega arith; left = refl }
+
+  module _ (i : ℕ) (s : Checked checks size f count l i) where
+    module _ (ok : (e : Entry) → T (named (checks e))) (h : i < count) (e : Entry) (is : e ≡ f (drop (size * i) l)) (n : ℕ) (says : n ≡ first (checks e)) where
+      one : ifZero n (first (entriesChecks checks (drop (i + 1) (groups size f count l)))) n ≡ first (entriesChecks checks (groups size f count l))
+      one = rw (says, is, ← group-at size f count l i noEntry h) (rw (next-group size f count l i noEntry h, next-check checks ok) at (s .left))
+
+      pub check-turn : n ≡ 0 → Checked checks size f count l (i + 1)
+      check-turn z = record { inside = omega arith; left = rw z at one }
+
+      pub check-stop : (n ≡ 0 → ⊥) → n ≡ first (entriesChecks checks (groups size f count l))
+      check-stop z = not-zero n (first (entriesChecks checks (drop (i + 1) (groups size f count l)))) n z ∙ one
+
+    pub check-end : count ≤ i → 0 ≡ first (entriesChecks checks (groups size f count l))
+    unfolding entriesChecks
+    check-end h =
+        let long : length (groups size f count l) ≤ i = rw length-groups h in
+        rw (drop-of-length-le (groups size f count l) long) at (s .left)
 
 -- What the checks of a movement given tell once they are passed.
 pub record Sound (vessels : ℕ) (e : Entry) : Type 0 where

@@ -1,22 +1,19 @@
 -- The first check that the movements left fail is that of all. The measure is the movements left.
 use borrow.Author.Needs.{needs}
-use Prim.Native.Nat.{_-_, _≤_}
-use mathlib.Core.Path.{_≡_}
-use lib.ListN.{drop}
-use Rattle.refusal.specs.Numbers.{first}
-use Rattle.fields.specs.Movements.{entriesGiven, givenChecks, entriesChecks}
-use Rattle.fields.proofs.EntryLaws.{named-given, check-turn, check-stop, check-end}
+use Prim.Native.Nat.{_-_}
+use Rattle.fields.specs.Movements.{givenSize, givenIn, givenChecks}
+use Rattle.fields.proofs.EntryLaws.{named-given, Checked, check-start, check-turn, check-stop, check-end}
 use Rattle.fields.proofs.entries.given_number.Statement.{statement}
 use Rattle.fields.proofs.entries.given_number.Tie as tie
 
 abbrev Inv-loop : tie.InvT-loop
-Inv-loop numbers count vessels i₀ i = (i ≤ count) × (first (entriesChecks (givenChecks vessels) (drop i (entriesGiven count numbers))) ≡ first (entriesChecks (givenChecks vessels) (entriesGiven count numbers)))
+Inv-loop numbers count vessels i₀ i = Checked (givenChecks vessels) givenSize givenIn count numbers i
 
 abbrev μ-loop : tie.MeasureT-loop
 μ-loop numbers count vessels i₀ i = count - i
 
 loop-holds : tie.Need-loop-holds Inv-loop μ-loop
-loop-holds c = search needs
+loop-holds c = search (needs, check-start)
 
 mul-given : tie.Need-mul-given Inv-loop μ-loop
 mul-given c = search needs
@@ -37,7 +34,7 @@ loop-less : tie.Need-loop-less Inv-loop μ-loop
 loop-less c = search needs
 
 loop-again : tie.Need-loop-again Inv-loop μ-loop
-loop-again c = (search needs, search (needs, named-given, check-turn))
+loop-again c = search (needs, named-given, check-turn)
 
 returns-2 : tie.Need-returns-2 Inv-loop μ-loop
 returns-2 c = search (needs, check-end)

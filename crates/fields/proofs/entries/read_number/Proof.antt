@@ -1,22 +1,19 @@
 -- The first check that the movements left fail is that of all. The measure is the movements left.
 use borrow.Author.Needs.{needs}
-use Prim.Native.Nat.{_-_, _≤_}
-use mathlib.Core.Path.{_≡_}
-use lib.ListN.{drop}
-use Rattle.refusal.specs.Numbers.{first}
-use Rattle.fields.specs.Movements.{entriesIn, entryChecks, entriesChecks}
-use Rattle.fields.proofs.EntryLaws.{named-entry, check-turn, check-stop, check-end}
+use Prim.Native.Nat.{_-_}
+use Rattle.fields.specs.Movements.{entrySize, entryIn, entryChecks}
+use Rattle.fields.proofs.EntryLaws.{named-entry, Checked, check-start, check-turn, check-stop, check-end}
 use Rattle.fields.proofs.entries.read_number.Statement.{statement}
 use Rattle.fields.proofs.entries.read_number.Tie as tie
 
 abbrev Inv-loop : tie.InvT-loop
-Inv-loop entries count vessels i₀ i = (i ≤ count) × (first (entriesChecks (entryChecks vessels) (drop i (entriesIn count entries))) ≡ first (entriesChecks (entryChecks vessels) (entriesIn count entries)))
+Inv-loop entries count vessels i₀ i = Checked (entryChecks vessels) entrySize entryIn count entries i
 
 abbrev μ-loop : tie.MeasureT-loop
 μ-loop entries count vessels i₀ i = count - i
 
 loop-holds : tie.Need-loop-holds Inv-loop μ-loop
-loop-holds c = search needs
+loop-holds c = search (needs, check-start)
 
 mul-read-entry : tie.Need-mul-read-entry Inv-loop μ-loop
 mul-read-entry c = search needs
@@ -37,7 +34,7 @@ loop-less : tie.Need-loop-less Inv-loop μ-loop
 loop-less c = search needs
 
 loop-again : tie.Need-loop-again Inv-loop μ-loop
-loop-again c = (search needs, search (needs, named-entry, check-turn))
+loop-again c = search (needs, named-entry, check-turn)
 
 returns-2 : tie.Need-returns-2 Inv-loop μ-loop
 returns-2 c = search (needs, check-end)
