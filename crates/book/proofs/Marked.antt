@@ -3,7 +3,7 @@
 -- Assumes nothing.
 use mathlib.Core.Path.{_≡_, refl}
 use mathlib.Core.List.{List, [], _∷_, _++_, map}
-use Prim.Native.Nat.{ℕ, _+_}
+use Prim.Native.Nat.{ℕ}
 use lib.ListN.{take, replicate}
 use Rattle.table.specs.Pieces.{held}
 use Rattle.table.specs.Table.{piecesOf, flat, placesOf}

@@ -1,7 +1,7 @@
 -- `reports::clear` meets its contract. The invariant: i numbers are 0, and the rest is as it was.
 -- Assumes nothing.
 use borrow.Author.Needs.{needs}
-use Prim.Native.Nat.{_+_, _-_, _≤_}
+use Prim.Native.Nat.{_-_, _≤_}
 use mathlib.Core.Path.{_≡_, refl}
 use mathlib.Core.List.{_++_}
 use lib.ListN.{length, drop, replicate}
