@@ -31,7 +31,8 @@ enum {
     LUMCHAKI_MOVEMENTS = 4096,    /* the most movements of a sheet */
     LUMCHAKI_SHEET_HEADER = 24,   /* the bytes of a sheet before its names */
     LUMCHAKI_NAME_BYTES = 8,      /* the bytes of a name in a sheet */
-    LUMCHAKI_MOVEMENT_BYTES = 12  /* the bytes of a movement in a sheet */
+    LUMCHAKI_MOVEMENT_BYTES = 12, /* the bytes of a movement in a sheet */
+    LUMCHAKI_MOVEMENT_NUMBERS = 5 /* the numbers that a movement is written from */
 };
 
 /* Which pieces of a vessel go first. */

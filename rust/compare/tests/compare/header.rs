@@ -1,6 +1,8 @@
 //! The C header says what the Rust declarations say.
 
-use calls::Refusal;
+use calls::{
+    Refusal, MOVEMENTS, MOVEMENT_BYTES, MOVEMENT_NUMBERS, NAME_BYTES, PLACES, SHEET_HEADER, VESSELS,
+};
 
 const HEADER: &str = include_str!("../../../../include/lumchaki.h");
 const DECLARATIONS: &str = include_str!("../../../lumchaki/src/ffi.rs");
@@ -33,6 +35,25 @@ fn every_refusal_has_its_number_and_word() {
             "{line}"
         );
         assert_eq!(lines.next(), None);
+    }
+}
+
+#[test]
+fn every_limit_has_its_number() {
+    let limits = [
+        ("VESSELS", VESSELS),
+        ("PLACES", PLACES),
+        ("MOVEMENTS", MOVEMENTS),
+        ("SHEET_HEADER", SHEET_HEADER),
+        ("NAME_BYTES", NAME_BYTES),
+        ("MOVEMENT_BYTES", MOVEMENT_BYTES),
+        ("MOVEMENT_NUMBERS", MOVEMENT_NUMBERS),
+    ];
+    for (name, number) in limits {
+        let limit = format!("LUMCHAKI_{name} = {number}");
+        let lines = HEADER.lines().map(|line| line.split([',', '/']).next());
+        let said = lines.flatten().filter(|line| line.trim() == limit);
+        assert_eq!(said.count(), 1, "{limit}");
     }
 }
 
