@@ -11,7 +11,7 @@ use Rattle.fields.specs.Movements.{entryChecks, entriesChecks}
 use Rattle.names.specs.Names.{namesOff}
 use Rattle.sheet.specs.Sheet.{vesselsOf, headerChecks, namesRead, entriesRead}
 
--- "each movement in turn for 18 and 5": "18 filler, filler not 0"
+-- "each movement in turn for 18 and 5", where 18 was "filler not 0"
 abbrev pub formerEntryChecks : ℕ → Entry → List Check
 formerEntryChecks vessels e = (18 if not (eqb (e .age) 0)) ∷ entryChecks vessels e
 
