@@ -10,7 +10,6 @@ use mathlib.Core.List.{List, [], _∷_, map}
 use Prim.Native.Nat.{ℕ, zero, suc, _≤_, _<_}
 use native.Mathlib.Nat.{sub-zero}
 use native.Mathlib.Omega.{arith}
-use lib.ListN.{replicate}
 use borrow.Author.Tests.{lt-ltb, le-ltb}
 use Rattle.table.specs.Table.{piecesOf, flat, placesOf}
 use Rattle.picking.specs.Selection.{precedes}
@@ -23,9 +22,10 @@ use Rattle.book.specs.Transfer.{transferOf, Standing, transferChecks, ta
 use Rattle.book.specs.Calls.{post, meaning}
 use Rattle.book.specs.Memory.{outcome, bookChecks, numberOf, callOn}
 use Rattle.book.specs.WeighBook.{WeighBook, blank, ofWeigh, weighed, weighNumber, feed}
-use Rattle.book.specs.Lists.{Journal, callsOn}
+use Rattle.book.specs.Lists.{callsOn}
 use Rattle.book.specs.Former.{unaged, formerChecks, formerMeaning, formerNumber, formerOn, formerWeighed}
 use Rattle.book.proofs.Checks.{past-clock}
+use Rattle.book.proofs.Cases.{Case, worked, seen, pieces}
 
 module _ (h : Head) (t : List ℕ) (s d m q : ℕ) where
   same-number : numberOf h t (post (unaged s d m q)) ≡ formerNumber h t s d m q
@@ -50,18 +50,6 @@ pub before-time : (g : Standing) (x : Transfer) → x .source < g .vessels → x
     → g .last ≤ x .minute → x .minute < x .age → first (transferChecks g x) ≡ 21
 before-time g x source-in destination-in apart weighty forward early = past-clock g x source-in destination-in apart weighty forward ∙ rw (lt-ltb _ _ early)
 
--- transfers on a fresh book of three vessels, and the pieces that they leave
-pub record Case : Type 0 where
-  pub rule : ℕ
-  pub given : List Transfer
-  pub wanted : List ℕ
-
-abbrev pieces : Journal → List ℕ
-pieces r = flat (piecesOf (r .head .pieces) (r .table))
-
-abbrev pub left : Case → List ℕ
-left c = pieces (callsOn ((opening (c .rule) 3) .head) (replicate 32 9) (map post (c .given)))
-
 -- the second delivery is received later, and was milled earlier
 abbrev apart : List Transfer
 apart = transferOf 0 2 10 5 2 ∷ transferOf 1 2 11 4 6 ∷ unaged 2 1 12 6 ∷ []
@@ -70,19 +58,16 @@ apart = transferOf 0 2 10 5 2 ∷ transferOf 1 2 11 4 6 ∷ unaged 2 1 12 6 ∷ 
 abbrev level : List Transfer
 level = transferOf 0 2 10 5 5 ∷ transferOf 1 2 11 4 6 ∷ unaged 2 1 12 6 ∷ []
 
-abbrev case : ℕ → List Transfer → List ℕ → Case
-case rule given wanted = record { rule = rule; given = given; wanted = wanted }
-
 unfoldable pub cases : List Case
 cases =
-    case 0 apart (2 ∷ 1 ∷ 5 ∷ 3 ∷ 1 ∷ 0 ∷ 8 ∷ 5 ∷ 1 ∷ 1 ∷ 5 ∷ 1 ∷ [])
-    ∷ case 2 apart (2 ∷ 0 ∷ 8 ∷ 3 ∷ 1 ∷ 1 ∷ 5 ∷ 4 ∷ 1 ∷ 0 ∷ 8 ∷ 2 ∷ [])
-    ∷ case 3 apart (2 ∷ 1 ∷ 5 ∷ 3 ∷ 1 ∷ 0 ∷ 8 ∷ 5 ∷ 1 ∷ 1 ∷ 5 ∷ 1 ∷ [])
-    ∷ case 2 level (2 ∷ 1 ∷ 5 ∷ 3 ∷ 1 ∷ 0 ∷ 5 ∷ 5 ∷ 1 ∷ 1 ∷ 5 ∷ 1 ∷ [])
-    ∷ case 3 level (2 ∷ 0 ∷ 5 ∷ 3 ∷ 1 ∷ 1 ∷ 5 ∷ 4 ∷ 1 ∷ 0 ∷ 5 ∷ 2 ∷ [])
+    worked 0 apart pieces (2 ∷ 1 ∷ 5 ∷ 3 ∷ 1 ∷ 0 ∷ 8 ∷ 5 ∷ 1 ∷ 1 ∷ 5 ∷ 1 ∷ 0 ∷ [])
+    ∷ worked 2 apart pieces (2 ∷ 0 ∷ 8 ∷ 3 ∷ 1 ∷ 1 ∷ 5 ∷ 4 ∷ 1 ∷ 0 ∷ 8 ∷ 2 ∷ 0 ∷ [])
+    ∷ worked 3 apart pieces (2 ∷ 1 ∷ 5 ∷ 3 ∷ 1 ∷ 0 ∷ 8 ∷ 5 ∷ 1 ∷ 1 ∷ 5 ∷ 1 ∷ 0 ∷ [])
+    ∷ worked 2 level pieces (2 ∷ 1 ∷ 5 ∷ 3 ∷ 1 ∷ 0 ∷ 5 ∷ 5 ∷ 1 ∷ 1 ∷ 5 ∷ 1 ∷ 0 ∷ [])
+    ∷ worked 3 level pieces (2 ∷ 0 ∷ 5 ∷ 3 ∷ 1 ∷ 1 ∷ 5 ∷ 4 ∷ 1 ∷ 0 ∷ 5 ∷ 2 ∷ 0 ∷ [])
     ∷ []
 
-pub aged : map left cases ≡ map (λ c. c .wanted) cases
+pub aged : map seen cases ≡ map (λ c. c .wanted) cases
 unfolding cases callsOn callOn numberOf bookChecks addsUp allFit same balancesOf tab placesOf piecesOf flat opening transferChecks takes taken takeUpTo precedes
 aged = refl
 

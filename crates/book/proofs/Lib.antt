@@ -8,6 +8,7 @@ pub mod Known
 pub mod Drained
 pub mod After
 pub mod Lists
+pub mod Cases
 pub mod Marked
 pub mod Ages
 pub mod InWords

@@ -4,7 +4,7 @@
 use mathlib.Core.Path.{_≡_, refl}
 use mathlib.Core.List.{List, [], _∷_, _++_, map}
 use Prim.Native.Nat.{ℕ}
-use lib.ListN.{take, replicate}
+use lib.ListN.{take}
 use Rattle.table.specs.Pieces.{held}
 use Rattle.table.specs.Table.{piecesOf, flat, placesOf}
 use Rattle.picking.specs.Selection.{precedes}
@@ -18,6 +18,7 @@ use Rattle.book.specs.Former.{unaged}
 use Rattle.book.specs.WeighBook.{WeighBook, blank, weighNumber, feed}
 use Rattle.book.specs.Lists.{Journal, callsOn, answered, evens, numbers}
 use Rattle.book.proofs.Sound.{all-taken}
+use Rattle.book.proofs.Cases.{Case, worked, seen, pieces}
 
 pub data Name : Type 0 where
   K1 : Name
@@ -31,28 +32,15 @@ pub data Name : Type 0 where
   K9 : Name
   K10 : Name
 
--- a marked case: transfers on a fresh book of three vessels, what is looked at afterwards, and what is seen then
-pub record Case : Type 0 where
+-- a marked case
+pub record Named : Type 0 where
   pub name : Name
-  pub rule : ℕ
-  pub given : List Transfer
-  pub look : Journal → List ℕ
-  pub wanted : List ℕ
+  pub is : Case
 
--- the table that is lent: eight places, and no zeros in it
-abbrev lent : List ℕ
-lent = replicate 32 9
-
-abbrev pub seen : Case → List ℕ
-seen c = (c .look) (callsOn ((opening (c .rule) 3) .head) lent (map post (c .given)))
-
--- What is looked at: the pieces and the even count; the births at some vessels and minutes; the balances of the head and the
--- weights of the weigh book; the numbers answered; the even count.
+-- What is looked at: the pieces and the even count, alone or with the numbers of the head; the births at some vessels and minutes; the
+-- balances of the head and the weights of the weigh book; the numbers answered; the even count.
 abbrev weighBook : Journal → WeighBook
 weighBook r = feed (blank 3) (answered (r .log))
-
-abbrev pieces : Journal → List ℕ
-pieces r = flat (piecesOf (r .head .pieces) (r .table)) ++ evens (r .log) ∷ []
 
 abbrev whole : Journal → List ℕ
 whole r = r .head .vessels ∷ r .head .rule ∷ r .head .accepted ∷ r .head .pieces ∷ pieces r
@@ -77,10 +65,10 @@ six = unaged 1 2 1 3 ∷ unaged 2 0 3 5 ∷ unaged 0 1 4 3 ∷ unaged 1 2 5 7 �
 abbrev emptied : List Transfer
 emptied = unaged 0 1 1 2 ∷ unaged 0 1 2 3 ∷ unaged 1 2 3 5 ∷ []
 
-abbrev case : Name → ℕ → List Transfer → (Journal → List ℕ) → List ℕ → Case
-case k r xs f ns = record { name = k; rule = r; given = xs; look = f; wanted = ns }
+abbrev case : Name → ℕ → List Transfer → (Journal → List ℕ) → List ℕ → Named
+case k r xs f ns = record { name = k; is = worked r xs f ns }
 
-unfoldable pub marked : List Case
+unfoldable pub marked : List Named
 marked =
     case K1 2 six whole (3 ∷ 2 ∷ 6 ∷ 4 ∷ 0 ∷ 2 ∷ 3 ∷ 2 ∷ 2 ∷ 1 ∷ 5 ∷ 4 ∷ 1 ∷ 1 ∷ 1 ∷ 2 ∷ 0 ∷ 1 ∷ 1 ∷ 1 ∷ 2 ∷ [])
     ∷ case K2 0 six pieces (0 ∷ 2 ∷ 3 ∷ 2 ∷ 2 ∷ 1 ∷ 5 ∷ 4 ∷ 1 ∷ 1 ∷ 1 ∷ 2 ∷ 0 ∷ 1 ∷ 1 ∷ 1 ∷ 2 ∷ [])
@@ -103,7 +91,7 @@ marked =
     ∷ case K10 0 (unaged 1 1 0 0 ∷ []) answers (6 ∷ [])
     ∷ []
 
-pub marked-cases : map seen marked ≡ map (λ c. c .wanted) marked
+pub marked-cases : map (λ c. seen (c .is)) marked ≡ map (λ c. c .is .wanted) marked
 unfolding marked callsOn callOn numberOf bookChecks addsUp allFit same balancesOf tab placesOf piecesOf flat opening transferChecks takes taken takeUpTo precedes feed weighNumber
 marked-cases = refl
 
