@@ -3,15 +3,15 @@
 use Prim.Native.Nat.{ℕ, zero, suc, _+_, _*_, _<_, _≤_}
 use native.Mathlib.Nat.{add-zero}
 use mathlib.Core.Bool.{Bool, false}
-use mathlib.Core.Path.{_≡_, refl, _∙_}
-use mathlib.Core.List.{List, [], _∷_}
+use mathlib.Core.Path.{_≡_, refl, sym, _∙_}
+use mathlib.Core.List.{List, [], _∷_, _++_}
 use lib.ListN.{length, getD, drop, drop-of-length-le}
 use lib.Seq.{getD-drop, drop-drop}
 use borrow.Author.Tests.{leb-false, ltb-false, lt-ltb, le-ltb}
 use lib.Dec.{T, leb, ltb}
 use native.Mathlib.Omega.{arith}
 use Rattle.refusal.specs.Numbers.{Check, _if_, first, ifZero}
-use Rattle.refusal.proofs.Numbers.{named, passed, first-append, not-zero, passed-first, passed-second, neither, named-append}
+use Rattle.refusal.proofs.Numbers.{named, passed, first-append, not-zero, passed-first, passed-second, neither, named-append, refuses-less, same-behind}
 use Rattle.book.specs.Transfer.{mostAge}
 use Rattle.fields.specs.declared.entries.Entry.{Entry}
 use Rattle.fields.specs.Bytes.{valueIn, groups}
@@ -113,6 +113,17 @@ module _ (n : ℕ) (off : Entry → Bool) (checks : Entry → List Check) (ok : 
   further (e ∷ es) h =
       let ih = further es (λ i k. h (suc i) (omega arith)) in
       rw (h 0 (omega arith), first-append (checks e) (entriesChecks checks es) (ok e), ← ih) (first-append (checks e) _ (ok e))
+
+-- and where its number is not given, it changes nothing either
+module _ (n : ℕ) (off : Entry → Bool) (checks : Entry → List Check) where
+  pub not-given : (es : List Entry) → (first (entriesChecks (λ e. (n if off e) ∷ checks e) es) ≡ n → ⊥)
+      → first (entriesChecks checks es) ≡ first (entriesChecks (λ e. (n if off e) ∷ checks e) es)
+  unfolding entriesChecks
+  not-given [] h = refl
+  not-given (e ∷ es) h =
+      let all = entriesChecks (λ e. (n if off e) ∷ checks e) es in
+      let here : first (checks e ++ all) ≡ first ((n if off e) ∷ checks e ++ all) = refuses-less n (off e) false (checks e ++ all) (λ q. refl) h in
+      same-behind n (checks e) all (entriesChecks checks es) (not-given es) (λ q. h (sym here ∙ q)) ∙ here
 
 -- where every age fits its bytes, the writer checks what reading does
 pub ages-fit : (vessels : ℕ) (es : List Entry) → ((i : ℕ) → i < length es → getD es i noEntry .age ≤ mostAge)

@@ -1,5 +1,5 @@
 -- "The sheet": the sizes of its parts, where they lie, and its limits. Definitions only. Assumes nothing.
-use mathlib.Core.Bool.{Bool, _||_}
+use mathlib.Core.Bool.{Bool}
 use mathlib.Core.List.{List, [], _∷_}
 use Prim.Native.Nat.{ℕ, _+_, _*_, _≤_}
 use lib.Dec.{ltb}
@@ -48,15 +48,12 @@ entriesStart vessels = nameStart vessels
 abbrev pub sheetSize : ℕ → ℕ → ℕ
 sheetSize vessels movements = entriesStart vessels + entrySize * movements
 
--- "M not 1 to 4,096"
-abbrev pub leastMovements : ℕ
-leastMovements = 1
-
+-- "Number 15 is left for M above 4,096" (document 02, #102): a sheet may have no movement.
 abbrev pub mostMovements : ℕ
 mostMovements = 4096
 
 unfoldable pub movementsOff : ℕ → Bool
-movementsOff movements = ltb movements leastMovements || ltb mostMovements movements
+movementsOff movements = ltb mostMovements movements
 
 -- No more vessels and movements than a sheet can have.
 pub record Within (vessels movements : ℕ) : Type 0 where

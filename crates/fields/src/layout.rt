@@ -12,8 +12,6 @@ pub const ENTRY_SIZE: usize = 12; // bytes of a movement
 
 pub const GIVEN_SIZE: usize = 5; // numbers that the writer is given for a movement: s, d, t, q, age
 
-pub const LEAST_MOVEMENTS: usize = 1;
-
 pub const MOST_MOVEMENTS: usize = 4096;
 
 pub const RULE_AT: usize = 4;
@@ -35,12 +33,9 @@ pub fn mark() -> [u8; MARK_SIZE]
     *b"PROV"
 }
 
-// Whether a sheet cannot have that many movements.
+// Whether a sheet cannot have that many movements. It can have none.
 pub fn movements_off(movements: usize) -> bool
     ensures { λ r. ⌜ r ≡ movementsOff movements ⌝ }
 {
-    if movements < LEAST_MOVEMENTS {
-        return true;
-    }
     MOST_MOVEMENTS < movements
 }

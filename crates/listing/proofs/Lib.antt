@@ -2,3 +2,4 @@
 pub mod LineLaws
 pub mod RunListing
 pub mod Published
+pub mod NoMovement

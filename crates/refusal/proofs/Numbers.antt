@@ -78,6 +78,18 @@ never n ((m if false) ∷ cs) h e = never n cs (behind (not (eqb m (suc n))) (wi
     behind true b k = k
     behind false b k = absurd k
 
+-- a check that refuses less, before the same ones: where its number was not given, nothing changes
+pub refuses-less : (n : ℕ) (a b : Bool) (cs : List Check) → (a ≡ false → b ≡ false) → (first ((n if a) ∷ cs) ≡ n → ⊥)
+    → first ((n if b) ∷ cs) ≡ first ((n if a) ∷ cs)
+refuses-less n true b cs f h = absurd (h refl)
+refuses-less n false b cs f h = rw (f refl)
+
+-- two lists that tell the same where the first does not give n, behind the same checks
+pub same-behind : (n : ℕ) (cs ds es : List Check) → ((first ds ≡ n → ⊥) → first es ≡ first ds) → (first (cs ++ ds) ≡ n → ⊥) → first (cs ++ es) ≡ first (cs ++ ds)
+same-behind n [] ds es f h = f h
+same-behind n ((m if true) ∷ cs) ds es f h = refl
+same-behind n ((m if false) ∷ cs) ds es f h = same-behind n cs ds es f h
+
 -- the first part of a list of checks refuses, or passes on to the second
 module _ (cs ds : List Check) (ok : T (named cs)) where
   pub refuses : (n : ℕ) → n ≡ first cs → (n ≡ 0 → ⊥) → n ≡ first (cs ++ ds)

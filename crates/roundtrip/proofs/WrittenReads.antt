@@ -71,7 +71,7 @@ module _ (rule vessels room : ℕ) (names numbers : List ℕ) (accepted : writeN
   split = append-assoc (headerBytes rule vessels count) names movements
 
   pub header : Header rule vessels count s
-  header = rw split (back-header rule vessels count (names ++ movements) (counted .opened .rule-known) (counted .opened .few-vessels) (counted .moved .1))
+  header = rw split (back-header rule vessels count (names ++ movements) (counted .opened .rule-known) (counted .opened .few-vessels) (counted .moved))
 
   behind-header : drop headerSize s ≡ names ++ movements
   behind-header = rw split (drop-at (headerBytes rule vessels count) (names ++ movements) headerSize (length-header rule vessels count))

@@ -1,2 +1,3 @@
 pub mod RunLaws
 pub mod RunTheorem
+pub mod NoMovement

@@ -216,7 +216,7 @@ module _ (s t : List ℕ) (r : Reading) (er : r ≡ reading s) where
           record {
             reads = read-well;
             count = ap (λ (x : Reading). x .movements) header;
-            few = rw header (good s 0 (sym read-well) refl .movements .1);
+            few = rw header (good s 0 (sym read-well) refl .movements);
             work = rw fresh (record { long = long; adds-up = k .adds; sized = k .sized; memory = a; aside = omega arith; above = omega arith });
           }
 

@@ -12,7 +12,7 @@ use Rattle.refusal.proofs.Numbers.{neither, refuses, passes}
 use Rattle.book.proofs.HeadLaws.{openable}
 use Rattle.book.specs.Head.{same, mostVessels, openChecks}
 use Rattle.fields.specs.Bytes.{valueIn}
-use Rattle.fields.specs.Layout.{mark, markSize, headerSize, namesAt, entriesAt, lengthAt, sheetSize, entriesStart, leastMovements, mostMovements, movementsOff}
+use Rattle.fields.specs.Layout.{mark, markSize, headerSize, namesAt, entriesAt, lengthAt, sheetSize, entriesStart}
 use Rattle.sheet.specs.Sheet.{ruleOf, vesselsOf, movementsOf, noSheet, layoutOff, fieldChecks, headerChecks}
 use Rattle.fields.proofs.ByteLaws.{is-same}
 
@@ -26,17 +26,8 @@ unfolding noSheet
 sheet-holds s k r e q h =
     omega (arith, ltb-false (length s) headerSize (neither (ltb (length s) headerSize) (not (same (take markSize s) mark)) (sym e ∙ q) .0))
 
-pub some-movements : (n : ℕ) → movementsOff n ≡ false → (leastMovements ≤ n) × (n ≤ mostMovements)
-unfolding movementsOff
-some-movements n e =
-    let h = neither (ltb n leastMovements) (ltb mostMovements n) e in
-    (ltb-false _ _ (h .0), ltb-false _ _ (h .1))
-
 pub few-vessels : (rule vessels n : ℕ) → n ≡ first (openChecks rule vessels) → n ≡ 0 → vessels ≤ mostVessels
 few-vessels rule vessels n e z = openable rule vessels (sym e ∙ z) .few-vessels
-
-pub few-movements : (n : ℕ) (r : Bool) → r ≡ movementsOff n → r ≡ false → n ≤ mostMovements
-few-movements n r e q = some-movements n (sym e ∙ q) .1
 
 -- the ways out of `layout_off`
 module _ (s : List ℕ) (vessels movements names : ℕ) (en : names ≡ valueIn 4 (drop namesAt s)) where

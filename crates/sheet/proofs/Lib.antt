@@ -2,5 +2,6 @@
 pub mod HeaderLaws
 pub mod ReadLaws
 pub mod AnswerLaws
-pub mod Ages
+pub mod Former
+pub mod NoMovement
 pub mod Samples

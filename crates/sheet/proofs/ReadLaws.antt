@@ -13,11 +13,11 @@ use Rattle.fields.specs.Bytes.{valueIn}
 use Rattle.names.specs.Names.{namesIn, namesOff}
 use Rattle.fields.specs.Movements.{entriesIn, entryChecks, entriesChecks}
 use Rattle.book.specs.Head.{openChecks}
-use Rattle.fields.specs.Layout.{leastMovements, mostMovements, headerSize, namesAt, entriesAt, lengthAt, entriesStart, sheetSize, movementsOff, Within}
+use Rattle.fields.specs.Layout.{mostMovements, headerSize, namesAt, entriesAt, lengthAt, entriesStart, sheetSize, movementsOff, Within}
 use Rattle.sheet.specs.Sheet.{entriesRead, namesRead, ruleOf, vesselsOf, movementsOf, layoutOff, noSheet, headerChecks, bodyChecks, readNumber}
+use Rattle.fields.proofs.LayoutLaws.{few-movements}
 use Rattle.fields.proofs.ByteLaws.{rest-part}
 use Rattle.book.proofs.HeadLaws.{Openable, openable}
-use Rattle.sheet.proofs.HeaderLaws.{some-movements}
 
 -- What a header lays down that passes its checks.
 pub record Laid (s : List ℕ) : Type 0 where
@@ -25,7 +25,7 @@ pub record Laid (s : List ℕ) : Type 0 where
   pub opens : first (openChecks (ruleOf s) (vesselsOf s)) ≡ 0
   pub inside : movementsOff (movementsOf s) ≡ false
   pub opened : Openable (ruleOf s) (vesselsOf s)
-  pub movements : (leastMovements ≤ movementsOf s) × (movementsOf s ≤ mostMovements)
+  pub movements : movementsOf s ≤ mostMovements
   pub names : valueIn 4 (drop namesAt s) ≡ headerSize
   pub start : valueIn 4 (drop entriesAt s) ≡ entriesStart (vesselsOf s)
   pub field : valueIn 4 (drop lengthAt s) ≡ sheetSize (vesselsOf s) (movementsOf s)
@@ -48,7 +48,7 @@ laid s n e z =
       opens = opens;
       inside = q .0;
       opened = openable (ruleOf s) (vesselsOf s) opens;
-      movements = some-movements (movementsOf s) (q .0);
+      movements = few-movements (movementsOf s) _ refl (q .0);
       names = same-if _ _ (a .0);
       start = same-if _ _ (b .0);
       field = same-if _ _ (c .0);

@@ -25,6 +25,10 @@ bytes =
     ∷ 2 ∷ 0 ∷ 3 ∷ 1 ∷ 2 ∷ 1 ∷ 0 ∷ 0 ∷ 5 ∷ 0 ∷ 0 ∷ 0
     ∷ []
 
+-- The same three vessels without a movement.
+unfoldable pub noMovement : List ℕ
+noMovement = set (set (take 48 bytes) 8 0) 20 48
+
 -- A sheet, and the number that reading it gives.
 pub record Sample : Type 0 where
   pub sheet : List ℕ
@@ -48,10 +52,12 @@ samples =
     ∷ sample 3 (set bytes 6 0)
     ∷ sample 3 (set bytes 6 65)
     ∷ sample 16 (set bytes 6 64)
-    -- no movement, 4,097 movements; 4,096 are not refused by 15
-    ∷ sample 15 (set bytes 8 0)
+    -- 4,097 movements; 4,096, one and none are not refused by 15
     ∷ sample 15 (set (set bytes 8 1) 9 16)
     ∷ sample 16 (set (set bytes 8 0) 9 16)
+    ∷ sample 16 (set bytes 8 1)
+    ∷ sample 16 (set bytes 8 0)
+    ∷ sample 0 noMovement
     -- each cause of 16 by itself: the offset of the names, that of the movements, the length, the real length
     ∷ sample 16 (set bytes 12 25)
     ∷ sample 16 (set bytes 16 49)
@@ -74,17 +80,28 @@ samples =
     -- two things wrong: the first in document 01's order is given
     ∷ sample 14 (set (set bytes 0 81) 4 4)
     ∷ sample 2 (set (set bytes 4 4) 6 0)
-    ∷ sample 3 (set (set bytes 6 0) 8 0)
-    ∷ sample 15 (set (set bytes 8 0) 12 25)
+    ∷ sample 3 (set (set bytes 6 0) 9 17)
+    ∷ sample 15 (set (set bytes 9 17) 12 25)
     ∷ sample 16 (set (set bytes 12 25) 24 0)
     ∷ sample 17 (set (set bytes 24 0) 48 3)
+    -- without a movement each of the others is looked at as before
+    ∷ sample 14 (set noMovement 0 81)
+    ∷ sample 2 (set noMovement 4 4)
+    ∷ sample 3 (set noMovement 6 0)
+    ∷ sample 15 (set noMovement 9 17)
+    ∷ sample 16 (set noMovement 12 25)
+    ∷ sample 16 (set noMovement 16 49)
+    ∷ sample 16 (set noMovement 20 60)
+    ∷ sample 16 (take 47 noMovement)
+    ∷ sample 16 (noMovement ++ (0 ∷ []))
+    ∷ sample 17 (set noMovement 40 65)
     -- an age beside what is wrong changes nothing
     ∷ sample 17 (set (set bytes 24 0) 51 255)
     ∷ sample 5 (set (set bytes 48 3) 51 255)
     ∷ []
 
 pub read-samples : map (λ c. readNumber (c .sheet)) samples ≡ map (λ c. c .number) samples
-unfolding sample samples bytes readNumber noSheet movementsOff layoutOff valueIn same groups exists wellFormed letters allZero entriesChecks
+unfolding sample samples bytes noMovement readNumber noSheet movementsOff layoutOff valueIn same groups exists wellFormed letters allZero entriesChecks
 read-samples = refl
 
 -- What asking for the movements of the sample yields: each number from all of its bytes, the low byte first.

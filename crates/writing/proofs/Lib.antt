@@ -1,4 +1,5 @@
 -- Laws that belong to no one function.
 pub mod SheetPut
 pub mod WriteLaws
+pub mod NoMovement
 pub mod Samples

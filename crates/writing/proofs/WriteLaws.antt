@@ -12,13 +12,13 @@ use lib.Seq.{sets, sets-eq, take-at}
 use Rattle.refusal.specs.Numbers.{Check, _if_, first}
 use Rattle.refusal.proofs.Numbers.{named, passed, neither, same-if, past, not-zero, refuses, passes, passed-first, passed-second}
 use Rattle.fields.specs.declared.entries.Entry.{Entry}
-use Rattle.fields.specs.Layout.{nameSize, leastMovements, mostMovements, sheetSize, movementsOff, Within}
+use Rattle.fields.specs.Layout.{nameSize, mostMovements, sheetSize, movementsOff, Within}
 use Rattle.names.specs.Names.{namesIn, namesOff}
 use Rattle.fields.specs.Movements.{givenSize, entrySize, givenIn, entriesGiven, entriesBytes, givenChecks, entriesChecks}
 use Rattle.book.specs.Head.{openChecks}
 use Rattle.writing.specs.Writing.{countGiven, givenOff, countChecks, contentChecks, roomCheck, writeNumber, sheetOf, written}
 use Rattle.book.proofs.HeadLaws.{Openable, openable}
-use Rattle.sheet.proofs.HeaderLaws.{some-movements}
+use Rattle.fields.proofs.LayoutLaws.{few-movements}
 use Rattle.fields.proofs.GroupLaws.{length-groups}
 use Rattle.fields.proofs.EntryLaws.{named-given, named-entries}
 use Rattle.writing.proofs.SheetPut.{length-entry, length-header}
@@ -33,7 +33,7 @@ pub record Counted (rule vessels : ℕ) (names numbers : List ℕ) : Type 0 wher
   pub opened : Openable rule vessels
   pub named : length names ≡ nameSize * vessels
   pub whole : length numbers % givenSize ≡ 0
-  pub moved : (leastMovements ≤ countGiven numbers) × (countGiven numbers ≤ mostMovements)
+  pub moved : countGiven numbers ≤ mostMovements
 
 pub counted : (rule vessels n : ℕ) (names numbers : List ℕ) → n ≡ first (countChecks rule vessels names numbers) → n ≡ 0 → Counted rule vessels names numbers
 unfolding givenOff
@@ -48,11 +48,11 @@ counted rule vessels n names numbers e z =
       opened = openable rule vessels opens;
       named = same-if _ _ (g .0);
       whole = same-if _ _ (g .1);
-      moved = some-movements (countGiven numbers) (p .1 .0);
+      moved = few-movements (countGiven numbers) _ refl (p .1 .0);
     }
 
 within : {rule vessels : ℕ} {names numbers : List ℕ} → Counted rule vessels names numbers → Within vessels (countGiven numbers)
-within g = record { few-vessels = g .opened .few-vessels; few-movements = g .moved .1 }
+within g = record { few-vessels = g .opened .few-vessels; few-movements = g .moved }
 
 -- what the content's checks ask
 pub content-fits : (rule vessels n : ℕ) (names numbers : List ℕ) → n ≡ first (countChecks rule vessels names numbers) → n ≡ 0

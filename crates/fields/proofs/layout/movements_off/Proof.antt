@@ -1,4 +1,4 @@
--- The two comparisons are the definition's.
+-- The comparison is the definition's.
 use Rattle.table.proofs.Tests.{tests}
 use Rattle.fields.specs.Layout.{movementsOff}
 use Rattle.fields.proofs.layout.movements_off.Statement.{statement}
@@ -8,9 +8,5 @@ returns : tie.Need-returns
 unfolding movementsOff
 returns c = search tests
 
-returns-2 : tie.Need-returns-2
-unfolding movementsOff
-returns-2 c = search tests
-
 pub movements-off-spec : {M : Type 1} → statement M
-movements-off-spec = tie.close (tie.spec returns returns-2)
+movements-off-spec = tie.close (tie.spec returns)

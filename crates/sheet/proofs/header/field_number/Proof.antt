@@ -1,5 +1,6 @@
 -- Each return is the first check that applies. Those passed bound the count of vessels and of movements, which the layout asks for.
-use Rattle.sheet.proofs.HeaderLaws.{out-open, out-one, out-two, out-none, few-vessels, few-movements}
+use Rattle.sheet.proofs.HeaderLaws.{out-open, out-one, out-two, out-none, few-vessels}
+use Rattle.fields.proofs.LayoutLaws.{few-movements}
 use borrow.Author.Needs.{needs}
 use Rattle.sheet.proofs.header.field_number.Statement.{statement}
 use Rattle.sheet.proofs.header.field_number.Tie as tie
