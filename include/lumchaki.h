@@ -60,7 +60,7 @@ enum {
     LUMCHAKI_SPAN_BACK = 12,    /* "span back": the span ends before it starts */
     LUMCHAKI_REPORT_SHORT = 13, /* "short form": the room for the report is too small */
     LUMCHAKI_NO_SHEET = 14,     /* "no sheet": fewer than 24 bytes, or another mark */
-    LUMCHAKI_MOVEMENTS_OFF = 15, /* "movements": the count of movements is not 1 to 4,096 */
+    LUMCHAKI_MOVEMENTS_OFF = 15, /* "movements": the count of movements is above 4,096 */
     LUMCHAKI_LAYOUT = 16,       /* "layout": an offset or length is wrong */
     LUMCHAKI_NAME = 17,         /* "name": a name is ill-formed or used twice */
     LUMCHAKI_AGE_OVER = 18,     /* "filler": an age that is to be written is above 65,535 */
@@ -152,7 +152,7 @@ lumchaki_reported lumchaki_whole(lumchaki_head head, const uint32_t *table, size
  *    0  the letters PROV
  *    4  rule (2 bytes)
  *    6  V, the count of vessels (2)
- *    8  M, the count of movements (4)
+ *    8  M, the count of movements, 0 to 4,096 (4)
  *   12  24, where the names start (4)
  *   16  24 + 8 V, where the movements start (4)
  *   20  24 + 8 V + 12 M, the length (4)
@@ -163,7 +163,8 @@ lumchaki_reported lumchaki_whole(lumchaki_head head, const uint32_t *table, size
  * read; one above its minute stops the run. */
 lumchaki_reading lumchaki_read(const uint8_t *sheet, size_t sheet_len);
 
-/* The movement at an index from 0. Checks as lumchaki_read, then 20. */
+/* The movement at an index from 0. Checks as lumchaki_read, then 20: a sheet of no movements gives 20
+ * for every index. */
 lumchaki_movement_read lumchaki_movement(const uint8_t *sheet, size_t sheet_len, uint32_t index);
 
 /* The length of a vessel's name, which starts at byte 24 + 8 * vessel of the sheet; 0 on a refusal,
@@ -172,14 +173,15 @@ size_t lumchaki_name(const uint8_t *sheet, size_t sheet_len, uint32_t vessel);
 uint32_t lumchaki_name_number(const uint8_t *sheet, size_t sheet_len, uint32_t vessel);
 
 /* Writes the sheet of 8 bytes for each name and 5 numbers for each movement: source, destination,
- * minute, weight, age. Bytes of `out` behind the sheet remain. Gives the number; checks 2, 3, 16, 15,
- * 17, then 18 and 5 of each movement, 19. */
+ * minute, weight, age. Without numbers it is a sheet of no movements, 24 + 8 * vessels bytes. Bytes of
+ * `out` behind the sheet remain. Gives the number; checks 2, 3, 16, 15, 17, then 18 and 5 of each
+ * movement, 19. */
 uint32_t lumchaki_write(uint32_t rule, uint32_t vessels, const uint8_t *names, size_t names_len,
                         const uint32_t *numbers, size_t numbers_len, uint8_t *out, size_t out_len);
 
 /* Runs a sheet on a table: checks as lumchaki_read, then 1, opens a book and transfers until a
  * movement is refused, with 6 to 8, 21, 9 or 11. A run that stops so keeps the movements before its
- * stop. */
+ * stop. Without movements the head is that of lumchaki_open and the table stays as it was. */
 lumchaki_ran lumchaki_run(const uint8_t *sheet, size_t sheet_len, uint32_t *table, size_t table_len);
 
 #ifdef __cplusplus

@@ -35,7 +35,7 @@ pub enum Refusal {
     ReportShort = 13,
     /// Fewer than 24 bytes, or another mark.
     NoSheet = 14,
-    /// The count of movements is not 1 to 4,096.
+    /// The count of movements is above 4,096.
     Movements = 15,
     /// An offset or length is wrong.
     Layout = 16,

@@ -315,11 +315,11 @@ pub fn names(random: &mut Random, vessels: u32) -> Vec<[u8; NAME_BYTES]> {
     names
 }
 
-/// A sheet that can be read, of at most so many movements. Its run may stop.
+/// A sheet that can be read, of at most so many movements, now and then of none. Its run may stop.
 pub fn sheet(random: &mut Random, most: u32) -> Sheet {
     let any = random.from_to(1, VESSELS as u32);
     let vessels = random.one_of(&[1, 2, 2, 3, 3, 4, 5, 64, any]);
-    let movements = random.from_to(1, most);
+    let movements = random.from_to(0, most);
     let mut book = WeighBook::new(vessels);
     let mut sheet = Sheet {
         rule: random.below(4),

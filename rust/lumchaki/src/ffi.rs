@@ -128,10 +128,9 @@ mod tests {
             assert_eq!(lumchaki_run(null(), 0, null_mut(), 0), run);
 
             let (o, room) = (out.as_mut_ptr(), out.len());
-            let (layout, count) = (Refusal::Layout.number(), Refusal::Movements.number());
+            let layout = Refusal::Layout.number();
             let output_short = Refusal::OutputShort.number();
             assert_eq!(lumchaki_write(0, 2, null(), 0, m, 5, o, room), layout);
-            assert_eq!(lumchaki_write(0, 2, n, 16, null(), 0, o, room), count);
             assert_eq!(
                 lumchaki_write(0, 2, n, 16, m, 5, null_mut(), 0),
                 output_short
@@ -142,7 +141,15 @@ mod tests {
             );
             assert!(out.iter().all(|&byte| byte == 0xee));
             assert_eq!(lumchaki_write(0, 2, n, 16, m, 5, o, room), 0);
+            assert_eq!(&out, SHEET);
+
+            // No numbers are no movements: a sheet of 24 + 2 × 8 bytes.
+            assert_eq!(lumchaki_write(0, 2, n, 16, null(), 0, o, room), 0);
+            let read = lumchaki_read(o, 40);
+            assert_eq!((read.number, read.movements), (0, 0));
+            let run = lumchaki_run(o, 40, table.as_mut_ptr(), 4);
+            assert_eq!((run.number, run.head), (0, lumchaki_open(0, 2).head));
         }
-        assert_eq!((table, &out), ([0; 4], SHEET));
+        assert_eq!((table, &out[40..]), ([0; 4], &SHEET[40..]));
     }
 }

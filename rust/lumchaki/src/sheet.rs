@@ -10,7 +10,7 @@ pub struct Summary {
     pub rule: u32,
     /// How many vessels there are.
     pub vessels: u32,
-    /// How many movements there are.
+    /// How many movements there are; a shift may have moved nothing.
     pub movements: u32,
 }
 
@@ -75,7 +75,8 @@ pub fn name(sheet: &[u8], vessel: u32) -> Result<&[u8], Refusal> {
 }
 
 /// Writes a sheet of 8 bytes for each name, filled up with zeros, and 5 numbers for each movement:
-/// source, destination, minute, weight, age. The part of `out` that was written comes back.
+/// source, destination, minute, weight, age. Without numbers it is a sheet of no movements. The part of
+/// `out` that was written comes back.
 ///
 /// # Errors
 /// The refusals 2, 3, 16, 15, 17, then 18 and 5 of each movement, and 19, the first that applies.
@@ -91,7 +92,8 @@ pub fn write<'o>(
     Ok(&out[..SHEET_HEADER + names.len() + MOVEMENT_BYTES * movements])
 }
 
-/// Runs a sheet on a table: a fresh book, and transfers until one is refused.
+/// Runs a sheet on a table: a fresh book, and transfers until one is refused. Without movements the
+/// book stays fresh.
 ///
 /// # Errors
 /// Those of [`read`], then [`Refusal::TableShort`]. A movement that is refused is no error: the run

@@ -58,7 +58,7 @@ fn check(sheet: &[u8]) -> Result<Reading, Refusal> {
     let (rule, vessels) = (u16_at(sheet, 4).into(), u16_at(sheet, 6).into());
     let movements = u32_at(sheet, 8);
     book::open(rule, vessels)?;
-    if movements == 0 || movements > MOVEMENTS as u32 {
+    if movements > MOVEMENTS as u32 {
         return Err(Refusal::Movements);
     }
     let first = SHEET_HEADER as u32 + NAME_BYTES as u32 * vessels;
@@ -133,7 +133,7 @@ pub fn write(
     if names.len() != NAME_BYTES * vessels as usize || !odd.is_empty() {
         return Err(Refusal::Layout);
     }
-    if movements.is_empty() || movements.len() > MOVEMENTS {
+    if movements.len() > MOVEMENTS {
         return Err(Refusal::Movements);
     }
     check_names(names)?;

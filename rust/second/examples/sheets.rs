@@ -41,11 +41,20 @@ fn old_flour() -> Sheet {
     }
 }
 
+/// A shift that moved nothing.
+fn holiday() -> Sheet {
+    Sheet {
+        movements: Vec::new(),
+        ..old_flour()
+    }
+}
+
 fn main() -> Result<(), Box<dyn Error>> {
     let folder = env::args().nth(1).ok_or("usage: sheets FOLDER")?;
     let sheets = [
         ("six-movements.sheet", six_movements()),
         ("old-flour.sheet", old_flour()),
+        ("holiday.sheet", holiday()),
     ];
     for (name, sheet) in sheets {
         fs::write(Path::new(&folder).join(name), sheet.bytes())?;

@@ -66,7 +66,7 @@ fn check_rule_and_vessels(rule: u32, vessels: u32) -> Result<(), Refusal> {
 }
 
 fn check_count(movements: usize) -> Result<(), Refusal> {
-    if !(1..=MOVEMENTS).contains(&movements) {
+    if movements > MOVEMENTS {
         return Err(Refusal::Movements);
     }
     Ok(())

@@ -1,7 +1,7 @@
 //! The listing program against the second implementation's listing, byte for byte.
 
-use compare::{aged_day, heaviest, room, sheet, working_day, Random};
-use second::listing;
+use compare::{aged_day, heaviest, names, room, sheet, working_day, Random};
+use second::{listing, Sheet};
 use std::io::{ErrorKind, Read, Write};
 use std::path::{Path, PathBuf};
 use std::process::{Command, Stdio};
@@ -50,6 +50,8 @@ fn list(program: &Path, input: &[u8], part: usize) -> Vec<u8> {
 #[derive(Debug, Default)]
 struct Covered {
     full: u32,
+    /// Of the full ones, those of a sheet without movements: the first line alone.
+    first_line: u32,
     stopped: u32,
     stopped_at_21: u32,
     refused: u32,
@@ -72,6 +74,7 @@ impl Covered {
             self.stopped_at_21 += u32::from(expected.ends_with(" at 21\n"));
         } else {
             self.full += 1;
+            self.first_line += u32::from(expected.contains(" accepted 0 "));
         }
     }
 }
@@ -116,6 +119,16 @@ fn program_lists_what_the_second_implementation_lists() {
         longer.resize(60_000, 0);
         covered.check(&program, &longer, 1 << 20);
     }
+    for (rule, vessels) in (0..4).flat_map(|rule| (1..=64).map(move |v| (rule, v))) {
+        let names = names(&mut random, vessels);
+        let movements = Vec::new();
+        let nothing = Sheet {
+            rule,
+            names,
+            movements,
+        };
+        covered.check(&program, &nothing.bytes(), 1 << 20);
+    }
     for length in [0, 1, 4, 23, 24, LONGEST, LONGEST + 1] {
         let bytes: Vec<u8> = room(&mut random, length).iter().map(|&n| n as u8).collect();
         covered.check(&program, &bytes, 1 << 20);
@@ -123,5 +136,5 @@ fn program_lists_what_the_second_implementation_lists() {
     let text = format!("listing program: {covered:?}\n");
     let _ = std::io::stdout().write_all(text.as_bytes());
     assert!(covered.full > 500 && covered.stopped > 300 && covered.refused > 700);
-    assert!(covered.stopped_at_21 > 50);
+    assert!(covered.stopped_at_21 > 50 && covered.first_line >= 256);
 }

@@ -5,6 +5,7 @@ mod books;
 mod demand3;
 mod header;
 mod listing;
+mod no_movements;
 mod order;
 mod sheets;
 mod stops;

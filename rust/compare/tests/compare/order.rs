@@ -6,14 +6,14 @@ use compare::{subjects, Pair};
 use std::collections::BTreeMap;
 
 /// Every subset of some faults, each in their order.
-fn sets(faults: &[u32]) -> impl Iterator<Item = Vec<u32>> + '_ {
+pub fn sets(faults: &[u32]) -> impl Iterator<Item = Vec<u32>> + '_ {
     (0..1u32 << faults.len()).map(move |set| {
         let chosen = (0..).zip(faults).filter(move |(i, _)| set >> i & 1 == 1);
         chosen.map(|(_, &fault)| fault).collect()
     })
 }
 
-fn first(set: &[u32]) -> u32 {
+pub fn first(set: &[u32]) -> u32 {
     set.first().copied().unwrap_or(0)
 }
 
@@ -165,14 +165,14 @@ fn reports() {
 }
 
 /// The parts of a good sheet, as the writer takes them.
-struct Parts {
-    rule: u32,
-    vessels: u32,
-    names: Vec<u8>,
-    numbers: Vec<u32>,
+pub struct Parts {
+    pub rule: u32,
+    pub vessels: u32,
+    pub names: Vec<u8>,
+    pub numbers: Vec<u32>,
 }
 
-fn good_parts() -> Parts {
+pub fn good_parts() -> Parts {
     Parts {
         rule: 3,
         vessels: 2,
@@ -206,9 +206,8 @@ fn writing() {
                     }
                 }
                 if set.contains(&15) {
-                    // Too many movements keep their faults, none at all has no vessel to be wrong.
-                    let count = if form % 2 == 0 { 5 * 4097 } else { 0 };
-                    parts.numbers.resize(count, 0);
+                    let movements = [4_097, 4_098, 8_192, 5_000][form];
+                    parts.numbers.resize(5 * movements, 0);
                 }
                 if set.contains(&16) {
                     match form {
@@ -299,22 +298,30 @@ const SHEET_AGES: [([u16; 2], u32); 4] = [
     ([0, 65_535], 21),
 ];
 
-/// A sheet of two vessels and two movements with these faults. 5 is in its first movement.
-fn sheet_with(set: &[u32], form: usize) -> Vec<u8> {
+/// The bytes of two movements with the ages of a form.
+fn two_movements(form: usize) -> Vec<u8> {
     let [[a, b], [c, d]] = SHEET_AGES[form].0.map(u16::to_le_bytes);
     let movements = [
         [0, 1, a, b, 5, 0, 0, 0, 9, 0, 0, 0],
         [1, 0, c, d, 6, 0, 0, 0, 4, 0, 0, 0],
     ];
-    let mut bytes = b"PROV\x03\0\x02\0\x02\0\0\0\x18\0\0\0\x28\0\0\0\x40\0\0\0".to_vec();
+    movements.concat()
+}
+
+/// A sheet of two vessels and these movements with these faults. 5 is in its first movement.
+pub fn sheet_with(movements: &[u8], set: &[u32], form: usize) -> Vec<u8> {
+    let mut bytes = b"PROV\x03\0\x02\0".to_vec();
+    bytes.extend([movements.len() as u8 / 12, 0, 0, 0]);
+    bytes.extend(b"\x18\0\0\0\x28\0\0\0");
+    bytes.extend([40 + movements.len() as u8, 0, 0, 0]);
     bytes.extend(b"LEFT\0\0\0\0RIGHT\0\0\0");
-    bytes.extend(movements.concat());
+    bytes.extend(movements);
     for fault in set.iter().rev() {
         match fault {
             14 => bytes[form] ^= 0x20,
             2 => bytes[4 + form % 2] = 4,
             3 => bytes[6 + form % 2] = [0, 1, 65, 255][form],
-            15 => bytes[8 + form] = [0, 17, 1, 1][form],
+            15 => bytes[8..12].copy_from_slice(&[4_097, TOP, 1 << 16, 5_000][form].to_le_bytes()),
             16 => match form {
                 0 => bytes[12] += 1,
                 1 => bytes[16] -= 8,
@@ -341,7 +348,7 @@ fn reading() {
         let mut pair = Pair::new(subject);
         for (form, (_, stop)) in SHEET_AGES.into_iter().enumerate() {
             for set in sets(&FAULTS) {
-                let sheet = sheet_with(&set, form);
+                let sheet = sheet_with(&two_movements(form), &set, form);
                 let number = first(&set);
                 assert_eq!(pair.read(&sheet).number, number, "{set:?} form {form}");
                 let or = |own: u32| if number == 0 { own } else { number };

@@ -21,8 +21,8 @@ fn table_length(random: &mut Random) -> usize {
     }
 }
 
-/// Every call on a sheet, with indices near the limits.
-fn ask_all(pair: &mut Pair, random: &mut Random, bytes: &[u8]) {
+/// Every call on a sheet, with indices near the limits. Whether it was read and has no movements.
+fn ask_all(pair: &mut Pair, random: &mut Random, bytes: &[u8]) -> bool {
     let reading = pair.read(bytes);
     let index = near(random, &[0, reading.movements]);
     pair.movement(bytes, index);
@@ -31,6 +31,7 @@ fn ask_all(pair: &mut Pair, random: &mut Random, bytes: &[u8]) {
     let length = table_length(random);
     let mut table = room(random, length);
     pair.run(bytes, &mut table);
+    reading.number == 0 && reading.movements == 0
 }
 
 /// Takes a sheet apart by the subject's own answers and writes it anew: the same bytes.
@@ -65,12 +66,12 @@ fn rewrite(pair: &mut Pair, random: &mut Random, sheet: &Sheet) {
 pub fn damage(random: &mut Random, bytes: &mut Vec<u8>) {
     let vessels = bytes.get(6).map_or(0, |&v| usize::from(v));
     let first = SHEET_HEADER + NAME_BYTES * vessels;
-    if bytes.len() < first + MOVEMENT_BYTES {
+    if bytes.len() < first {
         return; // cut already
     }
     let name = SHEET_HEADER + NAME_BYTES * random.index(vessels.max(1));
     let movements = (bytes.len() - first) / MOVEMENT_BYTES;
-    let movement = first + MOVEMENT_BYTES * random.index(movements);
+    let movement = first + MOVEMENT_BYTES * random.index(movements.max(1));
     let length = bytes.len() as u32;
     let mut put = |at: usize, number: u32, size: usize| {
         bytes[at..at + size].copy_from_slice(&number.to_le_bytes()[..size]);
@@ -101,22 +102,22 @@ pub fn damage(random: &mut Random, bytes: &mut Vec<u8>) {
             bytes.copy_within(name..name + NAME_BYTES, other);
         }
         // Its age: the sheet can be read, and the run may stop.
-        13 => put(movement + 2 + random.index(2), random.from_to(1, 255), 1),
-        14 => put(
+        13 if movements > 0 => put(movement + 2 + random.index(2), random.from_to(1, 255), 1),
+        14 if movements > 0 => put(
             movement + random.index(2),
             near(random, &[vessels as u32, 255]),
             1,
         ),
         15 => {
             // One movement fewer or more, and the header agrees.
-            let count = random.one_of(&[movements - 1, movements + 1]);
+            let count = random.one_of(&[movements.saturating_sub(1), movements + 1]);
             bytes.resize(first + MOVEMENT_BYTES * count, 0);
             let length = bytes.len() as u32;
             bytes[8..12].copy_from_slice(&(count as u32).to_le_bytes());
             bytes[20..24].copy_from_slice(&length.to_le_bytes());
         }
-        16 => put(random.index(length as usize), random.any(), 1),
-        _ => put(movement + 4 + random.index(8), random.any(), 1),
+        16 if movements > 0 => put(movement + 4 + random.index(8), random.any(), 1),
+        _ => put(random.index(length as usize), random.any(), 1),
     }
 }
 
@@ -125,14 +126,19 @@ fn good_sheets() {
     for subject in subjects() {
         let mut pair = Pair::new(subject);
         let mut random = Random::new(11);
+        let mut empty = 0;
         for _ in 0..10_000 {
             let sheet = sheet(&mut random, 60);
-            ask_all(&mut pair, &mut random, &sheet.bytes());
+            empty += u32::from(ask_all(&mut pair, &mut random, &sheet.bytes()));
             if random.once_in(8) {
                 rewrite(&mut pair, &mut random, &sheet);
             }
         }
-        pair.tally.print(&format!("good sheets, {}", pair.label()));
+        pair.tally.print(&format!(
+            "good sheets, {} ({empty} without movements)",
+            pair.label()
+        ));
+        assert!(empty > 100);
         pair.tally.expect("read", &[0], 10_000);
         pair.tally.expect("movement", &[0, 20], 500);
         pair.tally.expect("name", &[0, 5], 500);
@@ -173,15 +179,19 @@ fn damaged_sheets() {
     for subject in subjects() {
         let mut pair = Pair::new(subject);
         let mut random = Random::new(13);
+        let mut empty = 0;
         for _ in 0..40_000 {
             let mut bytes = sheet(&mut random, 12).bytes();
             for _ in 0..random.from_to(1, 2) {
                 damage(&mut random, &mut bytes);
             }
-            ask_all(&mut pair, &mut random, &bytes);
+            empty += u32::from(ask_all(&mut pair, &mut random, &bytes));
         }
-        pair.tally
-            .print(&format!("damaged sheets, {}", pair.label()));
+        pair.tally.print(&format!(
+            "damaged sheets, {} ({empty} without movements)",
+            pair.label()
+        ));
+        assert!(empty > 500);
         pair.tally.expect("read", &READ, 500);
         let asked: Vec<u32> = READ.into_iter().chain([20]).collect();
         pair.tally.expect("movement", &asked, 500);
@@ -257,7 +267,7 @@ fn every_age_of_a_sheet() {
     }
 }
 
-/// Every byte of a small sheet, with every value.
+/// Every byte of a small sheet, with every value; and of one without movements.
 #[test]
 fn every_byte_of_a_sheet() {
     let good = Sheet {
@@ -268,20 +278,30 @@ fn every_byte_of_a_sheet() {
             Transfer::new([1, 0, 6, 3]).aged(2),
         ],
     };
+    let nothing = Sheet {
+        movements: Vec::new(),
+        ..good.clone()
+    };
     for subject in subjects() {
         let mut pair = Pair::new(subject);
         let mut random = Random::new(14);
-        let mut bytes = good.bytes();
-        for at in 0..bytes.len() {
-            let kept = bytes[at];
-            for value in 0..=255 {
-                bytes[at] = value;
-                ask_all(&mut pair, &mut random, &bytes);
+        let mut empty = 0;
+        for mut bytes in [good.bytes(), nothing.bytes()] {
+            for at in 0..bytes.len() {
+                let kept = bytes[at];
+                for value in 0..=255 {
+                    bytes[at] = value;
+                    empty += u32::from(ask_all(&mut pair, &mut random, &bytes));
+                }
+                bytes[at] = kept;
             }
-            bytes[at] = kept;
         }
-        pair.tally.print(&format!("every byte, {}", pair.label()));
+        pair.tally.print(&format!(
+            "every byte, {} ({empty} without movements)",
+            pair.label()
+        ));
         pair.tally.expect("read", &READ, 100);
+        assert!(empty > 500);
     }
 }
 

@@ -166,7 +166,7 @@ impl Desk {
 }
 
 /// The subjects and the second implementation itself.
-fn engines() -> Vec<&'static dyn Engine> {
+pub fn engines() -> Vec<&'static dyn Engine> {
     let mut engines = subjects();
     engines.push(&Second);
     engines
@@ -383,7 +383,7 @@ fn listing_of_the_six_movements() {
 }
 
 /// A sheet of the folder `examples`.
-fn example(name: &str) -> Vec<u8> {
+pub fn example(name: &str) -> Vec<u8> {
     let folder = Path::new(env!("CARGO_MANIFEST_DIR")).join("../../examples");
     std::fs::read(folder.join(name)).expect("the example is checked in")
 }

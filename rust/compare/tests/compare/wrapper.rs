@@ -170,4 +170,26 @@ fn writing() {
     numbers[9] += 1;
     let over = lumchaki::write(1, 2, names, &numbers, &mut out);
     assert_eq!(over, Err(Refusal::AgeOver));
+    let many = lumchaki::write(1, 2, names, &[0; 5 * 4_097], &mut out);
+    assert_eq!(many, Err(Refusal::Movements));
+}
+
+#[test]
+fn no_movements() {
+    let mut out = [0xee; 50];
+    let sheet = lumchaki::write(3, 2, b"A\0\0\0\0\0\0\0BREAD\0\0\0", &[], &mut out);
+    let sheet = sheet.expect("a shift may move nothing");
+    assert_eq!(sheet.len(), 40);
+    assert_eq!(
+        lumchaki::read(sheet).map(|summary| summary.movements),
+        Ok(0)
+    );
+    assert_eq!(lumchaki::movement(sheet, 0), Err(Refusal::PastEnd));
+    assert_eq!(lumchaki::name(sheet, 1), Ok(&b"BREAD"[..]));
+    let mut table = [7; 4];
+    let run = lumchaki::run(sheet, &mut table).expect("the table has a place");
+    assert_eq!(Ok(run.head), lumchaki::open(3, 2));
+    assert_eq!((run.even, run.stop, table), (0, None, [7; 4]));
+    let short = lumchaki::run(sheet, &mut table[..3]);
+    assert_eq!(short, Err(Refusal::TableShort));
 }
