@@ -1,4 +1,5 @@
--- THE LISTING OF A SHEET WITHOUT MOVEMENTS is its first line: "vessels V rule R accepted 0 pieces 0 even 0" and a newline.
+-- A SHIFT THAT MOVED NOTHING, TO THE END. `no-movement-listed`: the listing of a sheet without movements is its first line, "vessels V rule R accepted 0 pieces 0
+-- even 0" and a newline. `no-movement-whole`: so it is of the sheet that the writer makes of no numbers, whatever rule, vessels and names it accepts.
 -- Assumes nothing.
 use Prim.Native.Nat.{ℕ, _≤_}
 use native.Mathlib.Omega.{arith}
@@ -8,8 +9,12 @@ use lib.ListN.{length}
 use Rattle.refusal.proofs.Numbers.{not-zero}
 use Rattle.book.specs.Head.{emptyHead}
 use Rattle.table.specs.Table.{piecesOf}
+use Rattle.sheet.specs.declared.answer.Reading.{Reading}
 use Rattle.sheet.specs.Sheet.{ruleOf, vesselsOf, movementsOf, readNumber}
+use Rattle.sheet.specs.Answers.{headerOf}
 use Rattle.sheet.proofs.ReadLaws.{good}
+use Rattle.writing.specs.Writing.{sheetOf, writeNumber}
+use Rattle.roundtrip.proofs.RoundTrip.{written-reads}
 use Rattle.run.proofs.NoMovement.{no-movement-run}
 use Rattle.text.specs.Digits.{digits, decimal}
 use Rattle.text.specs.Text.{word}
@@ -41,3 +46,13 @@ no-movement-listed s t none reads long =
     let opened = good s _ refl reads .opened in
     rw (no-movement-run s t none reads long)
     (sym (not-zero (vesselsOf s) _ _ (λ z. omega (arith, opened .some-vessels))) ∙ append-nil _ ∙ append-nil _ ∙ fresh-line (ruleOf s) (vesselsOf s))
+
+-- the same from the writer on: written from no numbers, read, run and listed
+pub no-movement-whole : (rule vessels room : ℕ) (names t : List ℕ) → writeNumber rule vessels names [] room ≡ 0 → 4 ≤ length t
+    → sheetListing (sheetOf rule vessels names []) t ≡ word vesselsWord vessels ++ word ruleWord rule ++ nothing
+no-movement-whole rule vessels room names t z long =
+    let s = sheetOf rule vessels names [] in
+    let back = written-reads rule vessels room names [] z (λ i. omega arith) in
+    let same : headerOf s ≡ record { number = 0; rule = rule; vessels = vessels; movements = 0 } = rw (back .number) at (back .header) in
+    no-movement-listed s t (ap (λ (r : Reading). r .movements) same) (back .number) long
+    ∙ ap (λ (r : Reading). word vesselsWord (r .vessels) ++ word ruleWord (r .rule) ++ nothing) same

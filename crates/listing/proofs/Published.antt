@@ -1,5 +1,5 @@
 -- THE PUBLISHED LISTING (K1): the six movements, written as a sheet under rule 2, read, run and listed, are the five lines of document 01,
--- byte for byte; so is the line of a sheet without movements; and the two other forms of a listing. Assumes nothing.
+-- byte for byte; and the two other forms of a listing. Assumes nothing.
 use mathlib.Core.Path.{_≡_, refl}
 use mathlib.Core.List.{List, [], _∷_, _++_, flatMap}
 use Prim.Native.Nat.{ℕ}
@@ -73,11 +73,6 @@ six =
 pub published-whole : sheetListing (sheetOf 2 3 names six) (replicate 32 9) ≡ lines
 unfolding listingText bookText firstLine pieceLines pieceLine decimal digits sheetOf bytesOf groups flatMap readNumber noSheet movementsOff layoutOff valueIn exists wellFormed letters allZero entriesChecks runFrom runNumber running callOn numberOf bookChecks addsUp allFit same balancesOf tab placesOf piecesOf flat opening transferChecks takes taken takeUpTo precedes
 published-whole = refl
-
--- the same vessels without a movement: "vessels 3 rule 2 accepted 0 pieces 0 even 0"
-pub published-none : sheetListing (sheetOf 2 3 names []) (replicate 32 9) ≡ 0x76 ∷ 0x65 ∷ 0x73 ∷ 0x73 ∷ 0x65 ∷ 0x6c ∷ 0x73 ∷ 0x20 ∷ 0x33 ∷ 0x20 ∷ 0x72 ∷ 0x75 ∷ 0x6c ∷ 0x65 ∷ 0x20 ∷ 0x32 ∷ 0x20 ∷ 0x61 ∷ 0x63 ∷ 0x63 ∷ 0x65 ∷ 0x70 ∷ 0x74 ∷ 0x65 ∷ 0x64 ∷ 0x20 ∷ 0x30 ∷ 0x20 ∷ 0x70 ∷ 0x69 ∷ 0x65 ∷ 0x63 ∷ 0x65 ∷ 0x73 ∷ 0x20 ∷ 0x30 ∷ 0x20 ∷ 0x65 ∷ 0x76 ∷ 0x65 ∷ 0x6e ∷ 0x20 ∷ 0x30 ∷ 0x0a ∷ []
-unfolding listingText bookText firstLine pieceLines decimal digits sheetOf bytesOf groups flatMap readNumber noSheet movementsOff layoutOff valueIn exists wellFormed letters allZero entriesChecks runFrom runNumber running same piecesOf opening
-published-none = refl
 
 -- "stopped 6 at 9"
 pub published-stopped : listingText (record { number = 9; index = 6; even = 2; head = head }) pieces ≡ lines ++ (0x73 ∷ 0x74 ∷ 0x6f ∷ 0x70 ∷ 0x70 ∷ 0x65 ∷ 0x64 ∷ 0x20 ∷ 0x36 ∷ 0x20 ∷ 0x61 ∷ 0x74 ∷ 0x20 ∷ 0x39 ∷ 0x0a ∷ [])
