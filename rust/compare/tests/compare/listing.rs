@@ -46,9 +46,10 @@ fn list(program: &Path, input: &[u8], part: usize) -> Vec<u8> {
     output
 }
 
-/// What a listing was about.
+/// The program, and what its listings were about.
 #[derive(Debug, Default)]
 struct Covered {
+    program: PathBuf,
     full: u32,
     /// Of the full ones, those of a sheet without movements: the first line alone.
     first_line: u32,
@@ -58,9 +59,9 @@ struct Covered {
 }
 
 impl Covered {
-    fn check(&mut self, program: &Path, input: &[u8], part: usize) {
+    fn check(&mut self, input: &[u8], part: usize) {
         let expected = listing(input);
-        let output = list(program, input, part);
+        let output = list(&self.program, input, part);
         if output != expected.as_bytes() {
             let path = std::env::temp_dir().join("lumchaki-differs.sheet");
             std::fs::write(&path, input).expect("the temporary directory takes a file");
@@ -77,6 +78,55 @@ impl Covered {
             self.first_line += u32::from(expected.contains(" accepted 0 "));
         }
     }
+
+    /// Good sheets and damaged ones.
+    fn any_sheets(&mut self, random: &mut Random) {
+        for round in 0..2_500 {
+            let mut bytes = sheet(random, 40).bytes();
+            if round % 2 == 1 {
+                crate::sheets::damage(random, &mut bytes);
+            }
+            let part = random.one_of(&[1 << 20, 1 << 20, 1 << 20, 7, 64]);
+            self.check(&bytes, part);
+        }
+    }
+
+    /// The longest sheets under a rule, and longer ones.
+    fn long_sheets(&mut self, random: &mut Random, rule: u32) {
+        self.check(&heaviest(rule).bytes(), 1 << 20);
+        let day = working_day(random, rule).bytes();
+        assert_eq!(day.len(), LONGEST);
+        self.check(&day, 4_000);
+        self.check(&aged_day(random, rule).bytes(), 4_000);
+        // Longer than the longest sheet, with a header that agrees with its own length or not.
+        for more in [1, 11, 12, 100, LONGEST, 200_000] {
+            let mut longer = day.clone();
+            longer.resize(LONGEST + more, 0);
+            self.check(&longer, 1 << 20);
+            longer[20..24].copy_from_slice(&((LONGEST + more) as u32).to_le_bytes());
+            self.check(&longer, 4_096);
+            longer[8..12].copy_from_slice(&4097u32.to_le_bytes());
+            self.check(&longer, 1 << 20);
+            longer[0] = b'p';
+            self.check(&longer, 1 << 20);
+        }
+        // A short sheet with much behind it.
+        let mut longer = sheet(random, 9).bytes();
+        longer.resize(60_000, 0);
+        self.check(&longer, 1 << 20);
+    }
+
+    /// Sheets without movements under a rule, of every count of vessels.
+    fn no_movements(&mut self, random: &mut Random, rule: u32) {
+        for vessels in 1..=64 {
+            let nothing = Sheet {
+                rule,
+                names: names(random, vessels),
+                movements: Vec::new(),
+            };
+            self.check(&nothing.bytes(), 1 << 20);
+        }
+    }
 }
 
 #[test]
@@ -86,52 +136,18 @@ fn program_lists_what_the_second_implementation_lists() {
         return;
     };
     let mut random = Random::new(31);
-    let mut covered = Covered::default();
-    for round in 0..2_500 {
-        let mut bytes = sheet(&mut random, 40).bytes();
-        if round % 2 == 1 {
-            crate::sheets::damage(&mut random, &mut bytes);
-        }
-        let part = random.one_of(&[1 << 20, 1 << 20, 1 << 20, 7, 64]);
-        covered.check(&program, &bytes, part);
-    }
+    let mut covered = Covered {
+        program,
+        ..Covered::default()
+    };
+    covered.any_sheets(&mut random);
     for rule in 0..4 {
-        covered.check(&program, &heaviest(rule).bytes(), 1 << 20);
-        let day = working_day(&mut random, rule).bytes();
-        assert_eq!(day.len(), LONGEST);
-        covered.check(&program, &day, 4_000);
-        let aged_day = aged_day(&mut random, rule).bytes();
-        covered.check(&program, &aged_day, 4_000);
-        // Longer than the longest sheet, with a header that agrees with its own length or not.
-        for more in [1, 11, 12, 100, LONGEST, 200_000] {
-            let mut longer = day.clone();
-            longer.resize(LONGEST + more, 0);
-            covered.check(&program, &longer, 1 << 20);
-            longer[20..24].copy_from_slice(&((LONGEST + more) as u32).to_le_bytes());
-            covered.check(&program, &longer, 4_096);
-            longer[8..12].copy_from_slice(&4097u32.to_le_bytes());
-            covered.check(&program, &longer, 1 << 20);
-            longer[0] = b'p';
-            covered.check(&program, &longer, 1 << 20);
-        }
-        // A short sheet with much behind it.
-        let mut longer = sheet(&mut random, 9).bytes();
-        longer.resize(60_000, 0);
-        covered.check(&program, &longer, 1 << 20);
-    }
-    for (rule, vessels) in (0..4).flat_map(|rule| (1..=64).map(move |v| (rule, v))) {
-        let names = names(&mut random, vessels);
-        let movements = Vec::new();
-        let nothing = Sheet {
-            rule,
-            names,
-            movements,
-        };
-        covered.check(&program, &nothing.bytes(), 1 << 20);
+        covered.long_sheets(&mut random, rule);
+        covered.no_movements(&mut random, rule);
     }
     for length in [0, 1, 4, 23, 24, LONGEST, LONGEST + 1] {
         let bytes: Vec<u8> = room(&mut random, length).iter().map(|&n| n as u8).collect();
-        covered.check(&program, &bytes, 1 << 20);
+        covered.check(&bytes, 1 << 20);
     }
     let text = format!("listing program: {covered:?}\n");
     let _ = std::io::stdout().write_all(text.as_bytes());

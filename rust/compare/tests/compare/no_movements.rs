@@ -1,7 +1,8 @@
 //! A shift that moved nothing: sheets of no movements, read, asked, written, run and listed.
 
-use crate::order::{first, good_parts, sets, sheet_with};
-use crate::vectors::{engines, example};
+use crate::desk::{engines, example};
+use crate::order::{first, sets};
+use crate::sheet_order::{good_parts, sheet_with};
 use calls::{Ran, TOP};
 use compare::{names, subjects, Pair, Random};
 use second::{listing, Sheet};
