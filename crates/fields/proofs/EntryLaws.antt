@@ -11,7 +11,7 @@ use borrow.Author.Tests.{leb-false, ltb-false, lt-ltb, le-ltb}
 use lib.Dec.{T, leb, ltb}
 use native.Mathlib.Omega.{arith}
 use Rattle.refusal.specs.Numbers.{Check, _if_, first, ifZero}
-use Rattle.refusal.proofs.Numbers.{named, passed, first-append, not-zero, passed-first, passed-second, neither, named-append, refuses-less, same-behind}
+use Rattle.refusal.proofs.Numbers.{named, passed, first-append, not-zero, passed-first, passed-second, neither, named-append, refuses-less, alike-behind}
 use Rattle.book.specs.Transfer.{mostAge}
 use Rattle.fields.specs.declared.entries.Entry.{Entry}
 use Rattle.fields.specs.Bytes.{valueIn, groups}
@@ -123,7 +123,7 @@ module _ (n : ℕ) (off : Entry → Bool) (checks : Entry → List Check) where
   not-given (e ∷ es) h =
       let all = entriesChecks (λ e. (n if off e) ∷ checks e) es in
       let here : first (checks e ++ all) ≡ first ((n if off e) ∷ checks e ++ all) = refuses-less n (off e) false (checks e ++ all) (λ q. refl) h in
-      same-behind n (checks e) all (entriesChecks checks es) (not-given es) (λ q. h (sym here ∙ q)) ∙ here
+      alike-behind n (checks e) all (entriesChecks checks es) (not-given es) (λ q. h (sym here ∙ q)) ∙ here
 
 -- where every age fits its bytes, the writer checks what reading does
 pub ages-fit : (vessels : ℕ) (es : List Entry) → ((i : ℕ) → i < length es → getD es i noEntry .age ≤ mostAge)

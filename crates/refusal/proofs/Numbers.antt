@@ -1,5 +1,5 @@
--- Laws of a list of checks: what it tells that none applies, two lists one after the other, a number that no check of a list has; and of what
--- a test or a number tells by itself.
+-- Laws of a list of checks: what it tells that none applies, two lists one after the other, a number that no check of a list has, a check that
+-- refuses less; and of what a test or a number tells by itself.
 -- Assumes nothing.
 use mathlib.Core.Path.{_≡_, refl, sym, _∙_}
 use mathlib.Core.Bool.{Bool, true, false, not, _&&_, _||_}
@@ -85,10 +85,10 @@ refuses-less n true b cs f h = absurd (h refl)
 refuses-less n false b cs f h = rw (f refl)
 
 -- two lists that tell the same where the first does not give n, behind the same checks
-pub same-behind : (n : ℕ) (cs ds es : List Check) → ((first ds ≡ n → ⊥) → first es ≡ first ds) → (first (cs ++ ds) ≡ n → ⊥) → first (cs ++ es) ≡ first (cs ++ ds)
-same-behind n [] ds es f h = f h
-same-behind n ((m if true) ∷ cs) ds es f h = refl
-same-behind n ((m if false) ∷ cs) ds es f h = same-behind n cs ds es f h
+pub alike-behind : (n : ℕ) (cs ds es : List Check) → ((first ds ≡ n → ⊥) → first es ≡ first ds) → (first (cs ++ ds) ≡ n → ⊥) → first (cs ++ es) ≡ first (cs ++ ds)
+alike-behind n [] ds es f h = f h
+alike-behind n ((m if true) ∷ cs) ds es f h = refl
+alike-behind n ((m if false) ∷ cs) ds es f h = alike-behind n cs ds es f h
 
 -- the first part of a list of checks refuses, or passes on to the second
 module _ (cs ds : List Check) (ok : T (named cs)) where

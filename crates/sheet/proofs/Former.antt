@@ -11,7 +11,7 @@ use lib.Dec.{T, eqb, ltb}
 use lib.ListN.{length, getD, drop}
 use borrow.Author.Tests.{ltb-false}
 use Rattle.refusal.specs.Numbers.{Check, _if_, first}
-use Rattle.refusal.proofs.Numbers.{neither, without, never, past, same-if, passed-second, refuses-less, same-behind}
+use Rattle.refusal.proofs.Numbers.{neither, without, never, past, same-if, passed-second, refuses-less, alike-behind}
 use Rattle.book.specs.Head.{openChecks}
 use Rattle.fields.specs.declared.entries.Entry.{Entry}
 use Rattle.fields.specs.Layout.{mostMovements, entriesStart, movementsOff}
@@ -64,9 +64,9 @@ module _ (s : List ℕ) where
       let was = 15 if formerMovementsOff (movementsOf s) in
       let is = 15 if movementsOff (movementsOf s) in
       let less : first (opening ++ is ∷ parts ++ former) ≡ first (opening ++ was ∷ parts ++ former) =
-      same-behind 15 opening (was ∷ parts ++ former) (is ∷ parts ++ former)
+      alike-behind 15 opening (was ∷ parts ++ former) (is ∷ parts ++ former)
       (refuses-less 15 (formerMovementsOff (movementsOf s)) (movementsOff (movementsOf s)) (parts ++ former) movements-off) not-15 in
-      same-behind 18 (opening ++ is ∷ parts) former entries
+      alike-behind 18 (opening ++ is ∷ parts) former entries
       (not-given 18 (λ e. not (eqb (e .age) 0)) (entryChecks (vesselsOf s)) (entriesRead s)) (λ q. not-18 (sym less ∙ q))
       ∙ less
 
