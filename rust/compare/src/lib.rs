@@ -7,17 +7,18 @@ mod library;
 mod make;
 mod pair;
 mod random;
+mod sheets;
 mod tally;
 
 pub use ages::Ages;
 #[cfg(feature = "library")]
 pub use library::Library;
 pub use make::{
-    aged_day, book, call_list, foul_book, heaviest, names, near, report_room, room, sheet,
-    transfer_for, working_day, Call, FOUL_CLAUSES,
+    book, call_list, foul_book, near, report_room, room, transfer_for, Call, FOUL_CLAUSES,
 };
 pub use pair::Pair;
 pub use random::Random;
+pub use sheets::{aged_day, damage, heaviest, names, sheet, working_day};
 pub use tally::Tally;
 
 use calls::Engine;

@@ -1,8 +1,8 @@
-//! Books, calls and sheets to compare on.
+//! Books and calls to compare on.
 
 use crate::Random;
-use calls::{places, Head, Piece, Transfer, MOVEMENTS, NAME_BYTES, TOP, VESSELS};
-use second::{Sheet, WeighBook};
+use calls::{places, Head, Piece, Transfer, TOP, VESSELS};
+use second::WeighBook;
 
 /// A call on an open book.
 #[derive(Clone, Debug)]
@@ -255,7 +255,7 @@ pub fn transfer_for(random: &mut Random, head: &Head, table: &[u32]) -> Transfer
 }
 
 /// A transfer aimed at what a weigh book shows, without any piece.
-fn weighed_transfer(random: &mut Random, book: &WeighBook) -> Transfer {
+pub(crate) fn weighed_transfer(random: &mut Random, book: &WeighBook) -> Transfer {
     let vessels = book.weights.len() as u32;
     let source = vessel(random, vessels);
     let mut destination = vessel(random, vessels);
@@ -297,102 +297,4 @@ pub fn call_list(random: &mut Random, vessels: u32, length: usize) -> Vec<Call> 
         }
     };
     (0..length).map(|_| call()).collect()
-}
-
-/// Well-formed names that differ, 8 bytes each.
-pub fn names(random: &mut Random, vessels: u32) -> Vec<[u8; NAME_BYTES]> {
-    let mut names: Vec<[u8; NAME_BYTES]> = Vec::new();
-    while names.len() < vessels as usize {
-        let mut name = [0; NAME_BYTES];
-        let length = random.from_to(1, NAME_BYTES as u32) as usize;
-        for byte in &mut name[..length] {
-            *byte = random.from_to(0x21, 0x7e) as u8;
-        }
-        if !names.contains(&name) {
-            names.push(name);
-        }
-    }
-    names
-}
-
-/// A sheet that can be read, of at most so many movements, now and then of none. Its run may stop.
-pub fn sheet(random: &mut Random, most: u32) -> Sheet {
-    let any = random.from_to(1, VESSELS as u32);
-    let vessels = random.one_of(&[1, 2, 2, 3, 3, 4, 5, 64, any]);
-    let movements = random.from_to(0, most);
-    let mut book = WeighBook::new(vessels);
-    let mut sheet = Sheet {
-        rule: random.below(4),
-        names: names(random, vessels),
-        movements: Vec::new(),
-    };
-    // Long runs want few faults: a stop ends them.
-    let calm = random.once_in(2);
-    while sheet.movements.len() < movements as usize {
-        let movement = weighed_transfer(random, &book);
-        if movement.source.max(movement.destination) >= vessels {
-            continue;
-        }
-        let refused = book.feed(movement) != 0;
-        if !refused || vessels == 1 || !calm && random.once_in(8) {
-            sheet.movements.push(movement);
-        }
-    }
-    sheet
-}
-
-/// The heaviest sheet: two vessels, all at minute 0, 1 gram forth, 2 back, 3 forth and so on.
-pub fn heaviest(rule: u32) -> Sheet {
-    let movement = |i: u32| Transfer::new([i % 2, 1 - i % 2, 0, i + 1]);
-    Sheet {
-        rule,
-        names: vec![*b"A\0\0\0\0\0\0\0", *b"B\0\0\0\0\0\0\0"],
-        movements: (0..MOVEMENTS as u32).map(movement).collect(),
-    }
-}
-
-/// A bakery's day: 8 suppliers, 16 silos, 16 leavens and 24 mixers. Deliveries of whole lots, then
-/// mostly parts of them, and now and then all that is left of a leaven.
-pub fn working_day(random: &mut Random, rule: u32) -> Sheet {
-    const SUPPLIERS: u32 = 0;
-    const SILOS: u32 = 8;
-    const LEAVENS: u32 = 24;
-    const MIXERS: u32 = 40;
-    let mut book = WeighBook::new(VESSELS as u32);
-    let mut movements = Vec::new();
-    while movements.len() < MOVEMENTS {
-        let supplier = SUPPLIERS + random.below(8);
-        let silo = SILOS + random.below(16);
-        let leaven = LEAVENS + random.below(16);
-        let mixer = MIXERS + random.below(24);
-        let left = book.weights[leaven as usize] as u32;
-        let (source, destination, weight) = match random.below(40) {
-            0..=3 => (supplier, silo, random.from_to(20_000, 60_000)),
-            4..=14 => (silo, leaven, random.from_to(200, 2_000)),
-            15..=26 => (silo, mixer, random.from_to(500, 4_000)),
-            27..=37 => (leaven, mixer, random.from_to(100, 1_500)),
-            38 => (leaven, silo, random.from_to(50, 300)),
-            _ => (leaven, mixer, left),
-        };
-        let minute = movements.len() as u32 / 3;
-        let movement = Transfer::new([source, destination, minute, weight]);
-        if book.feed(movement) == 0 {
-            movements.push(movement);
-        }
-    }
-    Sheet {
-        rule,
-        names: names(random, VESSELS as u32),
-        movements,
-    }
-}
-
-/// A bakery's day with flour of any age: the same movements, and births in no order.
-pub fn aged_day(random: &mut Random, rule: u32) -> Sheet {
-    let mut sheet = working_day(random, rule);
-    for movement in &mut sheet.movements {
-        let oldest = movement.minute.min(u16::MAX.into());
-        movement.age = random.from_to(0, oldest) as u16;
-    }
-    sheet
 }

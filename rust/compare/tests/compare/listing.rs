@@ -1,6 +1,6 @@
 //! The listing program against the second implementation's listing, byte for byte.
 
-use compare::{aged_day, heaviest, names, room, sheet, working_day, Random};
+use compare::{aged_day, damage, heaviest, names, room, sheet, working_day, Random};
 use second::{listing, Sheet};
 use std::io::{ErrorKind, Read, Write};
 use std::path::{Path, PathBuf};
@@ -84,7 +84,7 @@ impl Covered {
         for round in 0..2_500 {
             let mut bytes = sheet(random, 40).bytes();
             if round % 2 == 1 {
-                crate::sheets::damage(random, &mut bytes);
+                damage(random, &mut bytes);
             }
             let part = random.one_of(&[1 << 20, 1 << 20, 1 << 20, 7, 64]);
             self.check(&bytes, part);

@@ -1,9 +1,7 @@
 //! Sheets: good ones, long ones, damaged ones.
 
-use calls::{
-    Refusal, Transfer, MOVEMENTS, MOVEMENT_BYTES, MOVEMENT_NUMBERS, NAME_BYTES, SHEET_HEADER,
-};
-use compare::{near, room, sheet, subjects, Pair, Random};
+use calls::{Refusal, Transfer, MOVEMENTS, MOVEMENT_NUMBERS, NAME_BYTES, SHEET_HEADER};
+use compare::{damage, near, room, sheet, subjects, Pair, Random};
 use second::Sheet;
 
 /// What reading a sheet may answer.
@@ -58,65 +56,6 @@ fn rewrite(pair: &mut Pair, random: &mut Random, sheet: &Sheet) {
     let parts = (reading.rule, reading.vessels);
     assert_eq!(pair.write(parts, &names, &numbers, &mut out), 0);
     assert_eq!(out[..bytes.len()], bytes);
-}
-
-/// One damage to a sheet that could be read before the damages to it.
-pub fn damage(random: &mut Random, bytes: &mut Vec<u8>) {
-    let vessels = bytes.get(6).map_or(0, |&v| usize::from(v));
-    let first = SHEET_HEADER + NAME_BYTES * vessels;
-    if bytes.len() < first {
-        return; // cut already
-    }
-    let name = SHEET_HEADER + NAME_BYTES * random.index(vessels.max(1));
-    let movements = (bytes.len() - first) / MOVEMENT_BYTES;
-    let movement = first + MOVEMENT_BYTES * random.index(movements.max(1));
-    let length = bytes.len() as u32;
-    let mut put = |at: usize, number: u32, size: usize| {
-        bytes[at..at + size].copy_from_slice(&number.to_le_bytes()[..size]);
-    };
-    match random.below(18) {
-        0 => put(random.index(4), random.any(), 1),
-        1 => put(4, near(random, &[3, 256]), 2),
-        2 => put(6, near(random, &[0, 64, vessels as u32]), 2),
-        3 => put(8, near(random, &[0, 4096, movements as u32, 1 << 16]), 4),
-        4 => put(12, near(random, &[24]), 4),
-        5 => put(16, near(random, &[first as u32]), 4),
-        6 => put(20, near(random, &[length]), 4),
-        7 => bytes.truncate(random.index(length as usize)),
-        8 => bytes.extend(vec![0; 1 + random.index(20)]),
-        9 => put(name, 0, 1),
-        10 => put(
-            name + random.index(NAME_BYTES),
-            random.one_of(&[0x20, 0x7f, 0x80, 0xff]),
-            1,
-        ),
-        11 => put(
-            name + random.index(NAME_BYTES),
-            random.one_of(&[0, 1, 0x21, 0x7e]),
-            1,
-        ),
-        12 => {
-            let other = SHEET_HEADER + NAME_BYTES * random.index(vessels.max(1));
-            bytes.copy_within(name..name + NAME_BYTES, other);
-        }
-        // Its age: the sheet can be read, and the run may stop.
-        13 if movements > 0 => put(movement + 2 + random.index(2), random.from_to(1, 255), 1),
-        14 if movements > 0 => put(
-            movement + random.index(2),
-            near(random, &[vessels as u32, 255]),
-            1,
-        ),
-        15 => {
-            // One movement fewer or more, and the header agrees.
-            let count = random.one_of(&[movements.saturating_sub(1), movements + 1]);
-            bytes.resize(first + MOVEMENT_BYTES * count, 0);
-            let length = bytes.len() as u32;
-            bytes[8..12].copy_from_slice(&(count as u32).to_le_bytes());
-            bytes[20..24].copy_from_slice(&length.to_le_bytes());
-        }
-        16 if movements > 0 => put(movement + 4 + random.index(8), random.any(), 1),
-        _ => put(random.index(length as usize), random.any(), 1),
-    }
 }
 
 #[test]

@@ -1,7 +1,7 @@
 //! The typed face of the wrapper against the bare answers under it.
 
 use calls::{Head, Refusal, Transfer};
-use compare::{book, foul_book, near, room, sheet, transfer_for, Random, FOUL_CLAUSES};
+use compare::{book, damage, foul_book, near, room, sheet, transfer_for, Random, FOUL_CLAUSES};
 use lumchaki::raw;
 use std::collections::BTreeMap;
 
@@ -97,7 +97,7 @@ fn sheets() {
     for round in 0..6_000 {
         let mut bytes = sheet(&mut random, 10).bytes();
         if round % 2 == 1 {
-            crate::sheets::damage(&mut random, &mut bytes);
+            damage(&mut random, &mut bytes);
         }
         let bare = raw::read(&bytes);
         let result = lumchaki::read(&bytes);
