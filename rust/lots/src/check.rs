@@ -1,0 +1,181 @@
+//! Fit or not, and where. The number is the library's; the place is looked for once it is known.
+
+use crate::clock::Clock;
+use crate::ledger::Ledger;
+use crate::sheet::{NAME_BYTES, RULES};
+use crate::text;
+use lumchaki::{Refusal, Stop, MOVEMENTS, VESSELS};
+
+/// The bytes before the names, and of a movement.
+const HEADER: usize = 24;
+const MOVEMENT_BYTES: usize = 12;
+
+/// The fields of the header by the byte where they start.
+const RULE: usize = 4;
+const VESSEL_COUNT: usize = 6;
+const MOVEMENT_COUNT: usize = 8;
+
+/// What is said of a sheet that can be read; the line is that of the movement where it stops, if it does.
+pub fn report(ledger: &Ledger, clock: &Clock, line: Option<usize>) -> String {
+    let (sheet, head) = (&ledger.sheet, &ledger.head);
+    let verdict = match (ledger.stop, line) {
+        (Some(stop), Some(line)) => {
+            format!(
+                "not fit: {}\n{}",
+                stop.refusal,
+                stopped(ledger, clock, &stop, line)
+            )
+        }
+        _ => "fit\n".to_string(),
+    };
+    let rule = RULES[sheet.rule as usize];
+    let (accepted, movements) = (head.accepted, sheet.movements.len());
+    format!(
+        "{verdict}  rule       {}, {rule}\n  vessels    {}\n  accepted   {accepted} of {movements} movements\n  pieces     {}\n  even       {}\n",
+        sheet.rule, head.vessels, head.pieces, ledger.even
+    )
+}
+
+/// Where a sheet is that was refused when it was read: field, vessel or movement, and what it has there.
+pub fn place(bytes: &[u8], refusal: Refusal) -> String {
+    let found = match refusal {
+        Refusal::NoSheet => Some(no_sheet(bytes)),
+        Refusal::RuleUnknown => counted(bytes, "rule", RULE, 2, "0 to 3"),
+        Refusal::VesselCount => counted(bytes, "count of vessels", VESSEL_COUNT, 2, "1 to 64"),
+        Refusal::Movements => counted(bytes, "count of movements", MOVEMENT_COUNT, 4, "0 to 4096"),
+        Refusal::Layout => layout(bytes),
+        Refusal::Name => name(bytes),
+        Refusal::NoVessel => movement(bytes),
+        _ => None,
+    };
+    found.unwrap_or_default()
+}
+
+/// A number of these bytes, as the sheet has it.
+fn number(bytes: &[u8], at: usize, size: usize) -> Option<u32> {
+    let field = bytes.get(at..at + size)?;
+    Some(field.iter().rev().fold(0, |n, &b| n << 8 | u32::from(b)))
+}
+
+fn no_sheet(bytes: &[u8]) -> String {
+    if bytes.len() < HEADER {
+        return format!(
+            "it has {} bytes, and a sheet has at least {HEADER}",
+            bytes.len()
+        );
+    }
+    let mark = bytes[..4].escape_ascii();
+    let text = match text::looks_like(bytes) {
+        true => "; it looks like a text, and `lots sheet` makes a sheet of it",
+        false => "",
+    };
+    format!("field mark, bytes 0 to 3: \"{mark}\", not \"PROV\"{text}")
+}
+
+fn counted(bytes: &[u8], field: &str, at: usize, size: usize, range: &str) -> Option<String> {
+    let has = number(bytes, at, size)?;
+    let last = at + size - 1;
+    Some(format!(
+        "field {field}, bytes {at} to {last}: {has}, not {range}"
+    ))
+}
+
+fn layout(bytes: &[u8]) -> Option<String> {
+    let vessels = number(bytes, VESSEL_COUNT, 2)? as usize;
+    let movements = number(bytes, MOVEMENT_COUNT, 4)? as usize;
+    let names_end = HEADER + NAME_BYTES * vessels;
+    let length = names_end + MOVEMENT_BYTES * movements;
+    let fields = [
+        ("offset of the names", 12, HEADER),
+        ("offset of the movements", 16, names_end),
+        ("length", 20, length),
+    ];
+    for (field, at, due) in fields {
+        if number(bytes, at, 4)? as usize != due {
+            return counted(bytes, field, at, 4, &due.to_string());
+        }
+    }
+    let has = bytes.len();
+    Some(format!(
+        "it has {has} bytes, and {vessels} vessels and {movements} movements are {length}"
+    ))
+}
+
+/// The first name that is ill-formed or that an earlier vessel has.
+fn name(bytes: &[u8]) -> Option<String> {
+    let vessels = (number(bytes, VESSEL_COUNT, 2)? as usize).min(VESSELS);
+    let names = bytes.get(HEADER..HEADER + NAME_BYTES * vessels)?;
+    let names: Vec<&[u8]> = names.chunks_exact(NAME_BYTES).collect();
+    (0..vessels).find_map(|vessel| {
+        let earlier = names[..vessel].iter().position(|n| *n == names[vessel]);
+        let twice = || earlier.map(|other| format!("the same as vessel {other}'s"));
+        let why = ill_formed(names[vessel]).or_else(twice)?;
+        let (at, shown) = (HEADER + NAME_BYTES * vessel, names[vessel].escape_ascii());
+        let last = at + NAME_BYTES - 1;
+        Some(format!(
+            "vessel {vessel}, its name, bytes {at} to {last}: \"{shown}\", {why}"
+        ))
+    })
+}
+
+fn ill_formed(name: &[u8]) -> Option<String> {
+    let end = name.iter().position(|&b| b == 0).unwrap_or(name.len());
+    if end == 0 {
+        return Some("no letter at its start".to_string());
+    }
+    let (letters, zeros) = name.split_at(end);
+    if let Some(at) = letters.iter().position(|b| !(b'!'..=b'~').contains(b)) {
+        return Some(format!(
+            "{:02x} hexadecimal at {at} is no visible character",
+            letters[at]
+        ));
+    }
+    let after = zeros.iter().position(|&b| b != 0)?;
+    Some(format!(
+        "behind its end there is {:02x} hexadecimal",
+        zeros[after]
+    ))
+}
+
+/// The first movement of a vessel that is not there.
+fn movement(bytes: &[u8]) -> Option<String> {
+    let vessels = number(bytes, VESSEL_COUNT, 2)?;
+    let movements = (number(bytes, MOVEMENT_COUNT, 4)? as usize).min(MOVEMENTS);
+    let first = HEADER + NAME_BYTES * vessels as usize;
+    (0..movements).find_map(|index| {
+        let at = first + MOVEMENT_BYTES * index;
+        ["source", "destination"].into_iter().zip(at..).find_map(|(field, at)| {
+            let has = number(bytes, at, 1)?;
+            let off = || format!("movement {index}, its {field}, byte {at}: {has}, and the vessels are {vessels}");
+            (has >= vessels).then(off)
+        })
+    })
+}
+
+/// Where a run stopped, and what the movement met there.
+fn stopped(ledger: &Ledger, clock: &Clock, stop: &Stop, line: usize) -> String {
+    let (sheet, head) = (&ledger.sheet, &ledger.head);
+    let m = &sheet.movements[stop.index as usize];
+    let destination = ledger.name(m.destination);
+    let met = match stop.refusal {
+        Refusal::SameVessel => format!("{destination} is source and destination"),
+        Refusal::NoWeight => "its weight is 0".to_string(),
+        Refusal::ClockBack => format!("the minute before it is {}", clock.show(head.last)),
+        Refusal::BeforeTime => format!("its age, {}, is above its minute, {}", m.age, m.minute),
+        Refusal::Overfull => {
+            let balance = ledger.balance(m.destination);
+            format!(
+                "{destination} holds {balance} g, and a vessel holds at most {}",
+                u32::MAX
+            )
+        }
+        refusal => refusal.word().to_string(),
+    };
+    let shown = text::movement(sheet, clock, m, &text::Widths::default());
+    let at = HEADER + NAME_BYTES * sheet.names.len() + MOVEMENT_BYTES * stop.index as usize;
+    let last = at + MOVEMENT_BYTES - 1;
+    format!(
+        "  movement   {}, from 0 on; bytes {at} to {last}\n  line       {line} of the text: {shown}\n  because    {met}\n",
+        stop.index
+    )
+}

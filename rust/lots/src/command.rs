@@ -1,0 +1,170 @@
+//! The command line, taken apart.
+
+use crate::clock::{number, Clock, Start};
+use crate::sheet::Cut;
+use std::ffi::OsString;
+
+/// What is asked of a sheet.
+#[derive(Clone, Debug)]
+pub enum Verb {
+    /// The pieces as numbers.
+    List,
+    /// What is in these vessels, or in all.
+    Whose(Vec<String>),
+    /// Where an origin's flour is, born in a span or ever.
+    Where(String, Option<(String, String)>),
+    /// Vessels by origins.
+    Whole {
+        /// For a spreadsheet, not for people.
+        csv: bool,
+    },
+    /// Fit or not, and where.
+    Check,
+    /// The sheet as text.
+    Text,
+    /// A text as a sheet.
+    Sheet,
+    /// The page.
+    Page,
+}
+
+/// A command.
+#[derive(Clone, Debug)]
+pub struct Command {
+    /// What is asked.
+    pub verb: Verb,
+    /// The file, or `-`.
+    pub file: OsString,
+    /// Whether the file stands alone, without a command's word.
+    pub bare: bool,
+    /// How much of the sheet is looked at.
+    pub cut: Cut,
+    /// How minutes are shown and read.
+    pub clock: Clock,
+}
+
+/// The options, and the words beside them.
+#[derive(Default)]
+struct Line {
+    words: Vec<OsString>,
+    cut: Cut,
+    clock: Clock,
+    csv: bool,
+    help: bool,
+}
+
+/// Takes a command line apart. None: the usage is asked for.
+pub fn parse(arguments: &[OsString]) -> Result<Option<Command>, String> {
+    let line = Line::read(arguments)?;
+    let Some((first, rest)) = line.words.split_first() else {
+        return match arguments.iter().all(|a| a == "--help") {
+            true => Ok(None),
+            false => Err("no sheet is named".to_string()),
+        };
+    };
+    if line.help || first == "help" {
+        return Ok(None);
+    }
+    let word = first.to_string_lossy();
+    let named = verb(&word, rest, line.csv)?;
+    let bare = named.is_none();
+    if bare && !rest.is_empty() {
+        return Err(format!("{word}: no such command"));
+    }
+    let (verb, file) = named.unwrap_or((Verb::List, first.clone()));
+    if line.csv && !matches!(verb, Verb::Whole { .. }) {
+        return Err("--csv goes with whole alone".to_string());
+    }
+    Ok(Some(Command {
+        verb,
+        file,
+        bare,
+        cut: line.cut,
+        clock: line.clock,
+    }))
+}
+
+/// The verb of a command's word and its file; none for a word that is no command.
+fn verb(word: &str, rest: &[OsString], csv: bool) -> Result<Option<(Verb, OsString)>, String> {
+    let kinds = [
+        "list", "whose", "where", "whole", "check", "text", "sheet", "page",
+    ];
+    if !kinds.contains(&word) {
+        return Ok(None);
+    }
+    let kind = if word == "sheet" { "text" } else { "sheet" };
+    let (file, rest) = rest
+        .split_first()
+        .ok_or_else(|| format!("{word}: no {kind} is named"))?;
+    let mut words = rest.iter().map(|w| w.to_string_lossy().into_owned());
+    let verb = match word {
+        "whose" => Verb::Whose(words.by_ref().collect()),
+        "where" => {
+            let origin = words.next().ok_or("where: no origin is named")?;
+            let span = match (words.next(), words.next()) {
+                (Some(from), Some(to)) => Some((from, to)),
+                (None, _) => None,
+                (Some(_), None) => return Err("where: a span has two ends".to_string()),
+            };
+            Verb::Where(origin, span)
+        }
+        "whole" => Verb::Whole { csv },
+        "check" => Verb::Check,
+        "text" => Verb::Text,
+        "sheet" => Verb::Sheet,
+        "page" => Verb::Page,
+        _ => Verb::List,
+    };
+    match words.next() {
+        Some(word) => Err(format!("{word}: one word too many")),
+        None => Ok(Some((verb, file.clone()))),
+    }
+}
+
+impl Line {
+    fn read(arguments: &[OsString]) -> Result<Line, String> {
+        let mut line = Line::default();
+        let mut arguments = arguments.iter();
+        while let Some(argument) = arguments.next() {
+            let option = argument.to_string_lossy();
+            if option == "--" {
+                line.words.extend(arguments.by_ref().cloned());
+            } else if let Some(option) = option.strip_prefix("--") {
+                let (name, value) = match option.split_once('=') {
+                    Some((name, value)) => (name, Some(value.to_string())),
+                    None => (option, None),
+                };
+                let next = || arguments.next().map(|a| a.to_string_lossy().into_owned());
+                line.option(name, value, next)?;
+            } else {
+                line.words.push(argument.clone());
+            }
+        }
+        Ok(line)
+    }
+
+    /// Takes an option, whose value stands behind `=` or is the next argument.
+    fn option(
+        &mut self,
+        name: &str,
+        given: Option<String>,
+        next: impl FnOnce() -> Option<String>,
+    ) -> Result<(), String> {
+        match name {
+            "csv" | "help" if given.is_some() => return Err(format!("--{name} takes no value")),
+            "csv" => self.csv = true,
+            "help" => self.help = true,
+            "until" | "movements" | "start" => {
+                let value = given.or_else(next);
+                let value = value.ok_or_else(|| format!("--{name} has no value"))?;
+                match name {
+                    "until" => self.cut.until = Some(value),
+                    "movements" => self.cut.movements = Some(number(&value)?),
+                    _ => self.clock.start = Some(Start::read(&value)?),
+                }
+            }
+            _ => return Err(format!("--{name}: no such option")),
+        }
+        Ok(())
+    }
+}

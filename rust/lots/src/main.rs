@@ -1,0 +1,24 @@
+//! `lots`: whose flour is in every vessel, and since when.
+
+use std::ffi::OsString;
+use std::io::{stderr, stdin, stdout, ErrorKind, Write};
+use std::process::ExitCode;
+
+/// The status where the answer could not be written.
+const UNWRITTEN: u8 = 3;
+
+fn main() -> ExitCode {
+    let arguments: Vec<OsString> = std::env::args_os().skip(1).collect();
+    let answer = lots::answer(&arguments, &mut stdin().lock());
+    let mut out = stdout().lock();
+    let written = out.write_all(&answer.out).and_then(|()| out.flush());
+    let _ = stderr().write_all(answer.err.as_bytes());
+    match written {
+        // A reader that goes away early, as `head` does, is no fault.
+        Err(error) if error.kind() != ErrorKind::BrokenPipe => {
+            let _ = writeln!(stderr(), "lots: standard output: {error}");
+            ExitCode::from(UNWRITTEN)
+        }
+        _ => ExitCode::from(answer.status),
+    }
+}

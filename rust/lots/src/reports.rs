@@ -1,0 +1,142 @@
+//! The answers for people and spreadsheets: whose, where, whole.
+
+use crate::clock::Clock;
+use crate::ledger::{percent, total, Ledger, Share};
+use lumchaki::Refusal;
+
+/// A line of names is not longer than this, where more than one name stands on it.
+const LINE: usize = 78;
+
+/// What is in each of these vessels: its weight, and by origin the weight, the share and the births.
+pub fn whose(ledger: &Ledger, vessels: &[u32], clock: &Clock) -> Result<String, Refusal> {
+    let mut text = String::new();
+    for &vessel in vessels {
+        let balance = ledger.balance(vessel);
+        let name = ledger.name(vessel);
+        if balance == 0 {
+            text += &format!("{name:8} {:>12}\n", "empty");
+            continue;
+        }
+        text += &format!("{name:8} {balance:12} g\n");
+        for share in ledger.held(vessel)? {
+            text += &line(ledger, share.origin, &share, clock);
+        }
+    }
+    Ok(text)
+}
+
+/// The vessels that hold flour of an origin born in a span, the total, and the vessels that are clear.
+pub fn recall(
+    ledger: &Ledger,
+    origin: u32,
+    span: Option<(u32, u32)>,
+    clock: &Clock,
+) -> Result<String, Refusal> {
+    let hit = ledger.spread(origin, span.unwrap_or((0, u32::MAX)))?;
+    let born = span.map_or("at any time".to_string(), |span| clock.show_span(span));
+    let mut text = format!("flour of {}, born {born}\n", ledger.name(origin));
+    for share in &hit {
+        text += &line(ledger, share.holder, share, clock);
+    }
+    let (sum, count, vessels) = (total(&hit), hit.len(), ledger.head.vessels);
+    text += &format!("total    {sum:12} g in {count} of {vessels} vessels\n");
+    let clear = |v: &u32| hit.iter().all(|share| share.holder != *v);
+    let clear: Vec<&str> = ledger
+        .vessels()
+        .filter(clear)
+        .map(|v| ledger.name(v))
+        .collect();
+    text += &match clear.is_empty() {
+        true => "no vessel is clear\n".to_string(),
+        false => wrapped("clear", &clear),
+    };
+    Ok(text)
+}
+
+/// A share under the name of its holder or its origin. The percentage is of what is in the holder.
+fn line(ledger: &Ledger, vessel: u32, share: &Share, clock: &Clock) -> String {
+    let name = ledger.name(vessel);
+    let part = percent(share.weight, ledger.balance(share.holder));
+    let born = clock.show_span(share.births);
+    format!("  {name:8} {:10} g {part:>8}  born {born}\n", share.weight)
+}
+
+/// Names behind a word, on as many lines as they need.
+fn wrapped(word: &str, names: &[&str]) -> String {
+    let mut text = word.to_string();
+    let mut length = text.len();
+    for name in names {
+        if length + 1 + name.len() > LINE {
+            text += "\n    ";
+            length = 4;
+        }
+        text += " ";
+        text += name;
+        length += 1 + name.len();
+    }
+    text + "\n"
+}
+
+/// Vessels by origins for people: origins whose flour is nowhere have no column, and 0 is a dot.
+pub fn whole(ledger: &Ledger) -> Result<String, Refusal> {
+    let report = ledger.whole()?;
+    let vessels = ledger.head.vessels as usize;
+    let column = |origin| report.iter().skip(origin).step_by(vessels).copied();
+    let sums: Vec<u64> = (0..vessels)
+        .map(|o| column(o).map(u64::from).sum())
+        .collect();
+    let origins: Vec<usize> = (0..vessels).filter(|&o| sums[o] > 0).collect();
+    let width = |o: usize| ledger.name(o as u32).len().max(sums[o].to_string().len());
+    let cell = |n: u64| {
+        if n == 0 {
+            ".".to_string()
+        } else {
+            n.to_string()
+        }
+    };
+    let line = |word: &str, cells: &dyn Fn(usize) -> String, last: &str| {
+        let mut text = format!("{word:8}");
+        for &origin in &origins {
+            text += &format!("  {:>w$}", cells(origin), w = width(origin));
+        }
+        format!("{text}  {last:>12}\n")
+    };
+    let mut text = line("", &|o| ledger.name(o as u32).to_string(), "total");
+    for (vessel, row) in ledger.vessels().zip(report.chunks_exact(vessels)) {
+        let balance = cell(ledger.balance(vessel).into());
+        text += &line(ledger.name(vessel), &|o| cell(row[o].into()), &balance);
+    }
+    text += &line("total", &|o| cell(sums[o]), &cell(sums.iter().sum()));
+    Ok(text)
+}
+
+/// Vessels by origins for a spreadsheet: a line of origins, then a line for each vessel.
+pub fn csv(ledger: &Ledger) -> Result<String, Refusal> {
+    let report = ledger.whole()?;
+    let mut text = "vessel".to_string();
+    for name in &ledger.sheet.names {
+        text += &format!(",{}", quoted(name));
+    }
+    text += "\n";
+    for (name, row) in ledger
+        .sheet
+        .names
+        .iter()
+        .zip(report.chunks_exact(ledger.sheet.names.len()))
+    {
+        text += &quoted(name);
+        for weight in row {
+            text += &format!(",{weight}");
+        }
+        text += "\n";
+    }
+    Ok(text)
+}
+
+/// A field of a line with commas: in quotes where it has to be, as RFC 4180 has it.
+fn quoted(field: &str) -> String {
+    if field.contains(['"', ',']) {
+        return format!("\"{}\"", field.replace('"', "\"\""));
+    }
+    field.to_string()
+}

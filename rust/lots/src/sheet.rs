@@ -1,0 +1,85 @@
+//! A sheet taken apart, and put together again, by the proved library.
+
+use crate::clock::Clock;
+use lumchaki::{Refusal, Transfer};
+
+/// The bytes of a name in a sheet.
+pub const NAME_BYTES: usize = 8;
+
+/// The bytes of the longest sheet that can be written: 64 names and 4,096 movements.
+const LONGEST: usize = 24 + NAME_BYTES * lumchaki::VESSELS + 12 * lumchaki::MOVEMENTS;
+
+/// The words for the rules, by their number.
+pub const RULES: [&str; 4] = [
+    "first in first out",
+    "last in first out",
+    "oldest first",
+    "youngest first",
+];
+
+/// A sheet that can be read.
+#[derive(Clone, Debug, PartialEq, Eq)]
+pub struct Sheet {
+    /// The rule of the book.
+    pub rule: u32,
+    /// The vessels' names: visible characters of ASCII.
+    pub names: Vec<String>,
+    /// The movements in order.
+    pub movements: Vec<Transfer>,
+}
+
+/// How much of a sheet is looked at. Both limits hold where both are given.
+#[derive(Clone, Debug, Default)]
+pub struct Cut {
+    /// No movement from the first one on that is later than this minute.
+    pub until: Option<String>,
+    /// No more movements than these.
+    pub movements: Option<u32>,
+}
+
+impl Sheet {
+    /// Takes a sheet apart.
+    pub fn read(bytes: &[u8]) -> Result<Sheet, Refusal> {
+        let summary = lumchaki::read(bytes)?;
+        let name = |vessel| {
+            let name = lumchaki::name(bytes, vessel)?;
+            Ok(String::from_utf8_lossy(name).into_owned())
+        };
+        Ok(Sheet {
+            rule: summary.rule,
+            names: (0..summary.vessels).map(name).collect::<Result<_, _>>()?,
+            movements: (0..summary.movements)
+                .map(|index| lumchaki::movement(bytes, index))
+                .collect::<Result<_, _>>()?,
+        })
+    }
+
+    /// The bytes of the sheet.
+    pub fn bytes(&self) -> Result<Vec<u8>, Refusal> {
+        let mut names = Vec::new();
+        for (vessel, name) in self.names.iter().enumerate() {
+            names.extend(name.bytes());
+            // A name that is too long makes the names too long, and is refused.
+            names.resize(names.len().max(NAME_BYTES * (vessel + 1)), 0);
+        }
+        let numbers: Vec<u32> = self.movements.iter().flat_map(Transfer::numbers).collect();
+        let mut room = vec![0; LONGEST];
+        let vessels = self.names.len() as u32;
+        let written = lumchaki::write(self.rule, vessels, &names, &numbers, &mut room)?;
+        Ok(written.to_vec())
+    }
+
+    /// Leaves out the movements behind a cut.
+    pub fn cut(&mut self, cut: &Cut, clock: &Clock) -> Result<(), String> {
+        if let Some(word) = &cut.until {
+            let until = clock.read(word)?;
+            let later = self.movements.iter().position(|m| m.minute > until);
+            self.movements
+                .truncate(later.unwrap_or(self.movements.len()));
+        }
+        if let Some(count) = cut.movements {
+            self.movements.truncate(count as usize);
+        }
+        Ok(())
+    }
+}
