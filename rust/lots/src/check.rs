@@ -15,25 +15,25 @@ const RULE: usize = 4;
 const VESSEL_COUNT: usize = 6;
 const MOVEMENT_COUNT: usize = 8;
 
-/// What is said of a sheet that can be read; the line is that of the movement where it stops, if it does.
-pub fn report(ledger: &Ledger, clock: &Clock, line: Option<usize>) -> String {
+/// What is said of a sheet that can be read, with the line of the movement where it stops, if it does.
+pub fn report(ledger: &Ledger, clock: &Clock, stop: Option<(Stop, usize)>) -> String {
     let (sheet, head) = (&ledger.sheet, &ledger.head);
-    let verdict = match (ledger.stop, line) {
-        (Some(stop), Some(line)) => {
-            format!(
-                "not fit: {}\n{}",
-                stop.refusal,
-                stopped(ledger, clock, &stop, line)
-            )
+    let verdict = match stop {
+        None => "fit\n".to_string(),
+        Some((stop, line)) => {
+            let place = stopped(ledger, clock, &stop, line);
+            format!("not fit: {}\n{place}", stop.refusal)
         }
-        _ => "fit\n".to_string(),
     };
-    let rule = RULES[sheet.rule as usize];
-    let (accepted, movements) = (head.accepted, sheet.movements.len());
-    format!(
-        "{verdict}  rule       {}, {rule}\n  vessels    {}\n  accepted   {accepted} of {movements} movements\n  pieces     {}\n  even       {}\n",
-        sheet.rule, head.vessels, head.pieces, ledger.even
-    )
+    let (rule, accepted, movements) = (sheet.rule, head.accepted, sheet.movements.len());
+    let lines = [
+        format!("  rule       {rule}, {}\n", RULES[rule as usize]),
+        format!("  vessels    {}\n", head.vessels),
+        format!("  accepted   {accepted} of {movements} movements\n"),
+        format!("  pieces     {}\n", head.pieces),
+        format!("  even       {}\n", ledger.even),
+    ];
+    verdict + &lines.concat()
 }
 
 /// Where a sheet is that was refused when it was read: field, vessel or movement, and what it has there.

@@ -23,10 +23,10 @@ const BEFORE_MOVEMENTS: usize = 1;
 /// How a movement is written.
 const MOVEMENT: &str = "MINUTE FROM -> TO GRAMS g [age MINUTES]";
 
-/// A text that was read.
+/// What a text says, and where.
 #[derive(Debug)]
 pub struct Text {
-    /// The sheet that it says.
+    /// The sheet.
     pub sheet: Sheet,
     /// The line of each movement, from 1.
     pub lines: Vec<usize>,
@@ -45,10 +45,17 @@ pub struct LineFault {
     pub why: String,
 }
 
-/// The line of a movement in the text that `write` gives.
-pub fn line_of(sheet: &Sheet, clock: &Clock, index: usize) -> usize {
-    let start = usize::from(clock.start.is_some());
-    BEFORE_VESSELS + start + sheet.names.len() + BEFORE_MOVEMENTS + index + 1
+impl Text {
+    /// The text that `write` gives of a sheet.
+    pub fn of(sheet: Sheet, clock: &Clock) -> Text {
+        let start = usize::from(clock.start.is_some());
+        let before = BEFORE_VESSELS + start + sheet.names.len() + BEFORE_MOVEMENTS;
+        Text {
+            lines: (before + 1..).take(sheet.movements.len()).collect(),
+            sheet,
+            clock: *clock,
+        }
+    }
 }
 
 /// The text of a sheet.

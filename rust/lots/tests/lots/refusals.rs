@@ -2,6 +2,7 @@
 
 use crate::{ask, text};
 use calls::{Refusal, Transfer, TOP};
+use compare::{sheet, Random};
 use second::Sheet;
 use std::collections::BTreeSet;
 
@@ -219,7 +220,7 @@ fn every_number_that_a_sheet_can_get() {
     );
 }
 
-/// A sheet that stops answers as it stood before that movement, and its text has the line that was named.
+/// A sheet that stops answers as it stood before that movement.
 fn still_answers(bytes: &[u8], stopped: &str) {
     for command in [
         "whose -",
@@ -239,18 +240,37 @@ fn still_answers(bytes: &[u8], stopped: &str) {
             assert_eq!(String::from_utf8(answer.out).expect("text"), before);
         }
     }
-    let check = String::from_utf8(ask("check -", bytes).out).expect("text");
-    let line = check
-        .split("of the text: ")
-        .nth(1)
-        .expect("a line")
-        .lines()
-        .next();
-    let text = String::from_utf8(ask("text -", bytes).out).expect("text");
-    let words = |line: &str| {
-        line.split_ascii_whitespace()
-            .map(str::to_string)
-            .collect::<Vec<_>>()
-    };
-    assert_eq!(text.lines().nth(9).map(words), line.map(words));
+}
+
+/// The line that a stop is said to be at is the movement's own in the text, with a start and without.
+#[test]
+fn the_line_of_a_stop() {
+    let words =
+        |line: &str| -> Vec<String> { line.split_ascii_whitespace().map(str::to_string).collect() };
+    let mut random = Random::new(73);
+    let mut stops = 0;
+    for _ in 0..2_000 {
+        let bytes = sheet(&mut random, 12).bytes();
+        let start = random.one_of(&["", "--start Mon", "--start Thu-04:15"]);
+        let check = ask(&format!("check - {start}"), &bytes);
+        let shown = String::from_utf8(check.out).expect("text");
+        let Some((place, shown)) = shown.split_once(" of the text: ") else {
+            continue;
+        };
+        let line: usize = words(place)
+            .last()
+            .and_then(|n| n.parse().ok())
+            .expect("a line");
+        assert!(
+            check.err.contains(&format!(", line {line} of the text: ")),
+            "{}",
+            check.err
+        );
+        let text = String::from_utf8(ask(&format!("text - {start}"), &bytes).out).expect("text");
+        let shown = shown.lines().next().expect("a movement");
+        assert_eq!(text.lines().nth(line - 1).map(words), Some(words(shown)));
+        stops += 1;
+    }
+    println!("lines of stops: {stops}");
+    assert!(stops > 200);
 }

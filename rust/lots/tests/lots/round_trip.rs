@@ -104,13 +104,17 @@ fn cuts() {
         };
         let written = text_of("text -", &whole.bytes());
         assert_eq!(sheet_of(&format!("sheet - {line}"), &written), cut.bytes());
-        for command in ["text", "whose", "whole", "check", "list"] {
-            let cut_there = ask(&format!("{command} - {line}"), &whole.bytes());
-            assert_eq!(
-                cut_there,
-                ask(&format!("{command} -"), &cut.bytes()),
-                "{command}"
-            );
+        for command in [
+            "text -",
+            "whose -",
+            "where - 0",
+            "whole -",
+            "check -",
+            "page -",
+            "list -",
+        ] {
+            let cut_there = ask(&format!("{command} {line}"), &whole.bytes());
+            assert_eq!(cut_there, ask(command, &cut.bytes()), "{command}");
         }
     }
 }

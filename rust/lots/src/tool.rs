@@ -1,0 +1,160 @@
+//! A command, from its file to its answer.
+
+use crate::clock::Clock;
+use crate::command::{Command, Verb};
+use crate::ledger::Ledger;
+use crate::sheet::Sheet;
+use crate::text::{LineFault, Text};
+use crate::{check, listing, page, reports, text, vessels, Answer};
+use lumchaki::{Refusal, Stop};
+use std::ffi::OsStr;
+use std::fs::File;
+use std::io::Read;
+
+/// No sheet and no text is longer than this.
+const LONGEST: u64 = 16 << 20;
+
+/// Why there is no answer.
+pub enum Fault {
+    /// Wrong use, with the usage.
+    Use(String),
+    /// A file that cannot be read.
+    File(String),
+    /// The sheet, the text or the question is refused.
+    Refused(String),
+    /// A part of the tool is not there.
+    Missing(String),
+}
+
+impl From<Refusal> for Fault {
+    fn from(refusal: Refusal) -> Fault {
+        Fault::Refused(refusal.to_string())
+    }
+}
+
+/// Carries out a command.
+pub fn carry_out(command: &Command, input: &mut dyn Read) -> Result<Answer, Fault> {
+    let given = bytes(&command.file, input).map_err(|why| match command.bare {
+        true => Fault::Use(format!("no such command, and {why}")),
+        false => Fault::File(why),
+    })?;
+    let mut text = match (&command.verb, Sheet::read(&given)) {
+        (Verb::Sheet, _) => {
+            text::read(&given, &command.clock).map_err(|fault| refused_line(command, &fault))?
+        }
+        (_, Ok(sheet)) => Text::of(sheet, &command.clock),
+        (_, Err(refusal)) => return refused(command, &given, refusal),
+    };
+    let clock = text.clock;
+    text.sheet.cut(&command.cut, &clock).map_err(Fault::Use)?;
+    let ledger = Ledger::of(text.sheet)?;
+    let stop = ledger
+        .stop
+        .map(|stop| (stop, text.lines[stop.index as usize]));
+    let out = match &command.verb {
+        Verb::List => listing::list(&ledger.sheet.bytes()?).map_err(Fault::Missing)?,
+        Verb::Whose(words) => whose(&ledger, words, &clock)?.into(),
+        Verb::Where(origin, span) => recall(&ledger, origin, span.as_ref(), &clock)?.into(),
+        Verb::Whole { csv: true } => reports::csv(&ledger)?.into(),
+        Verb::Whole { csv: false } => reports::whole(&ledger)?.into(),
+        Verb::Check => check::report(&ledger, &clock, stop).into(),
+        Verb::Text => text::write(&ledger.sheet, &clock).into(),
+        Verb::Sheet => ledger.sheet.bytes()?,
+        Verb::Page => page::page(&ledger, &clock)?.into(),
+    };
+    Ok(answered(command, out, stop))
+}
+
+/// The bytes of a file or of standard input.
+fn bytes(file: &OsStr, input: &mut dyn Read) -> Result<Vec<u8>, String> {
+    let failed = |why: String| format!("{}: {why}", file.display());
+    let mut bytes = Vec::new();
+    let read = if file == "-" {
+        input.take(LONGEST + 1).read_to_end(&mut bytes)
+    } else {
+        File::open(file).and_then(|file| file.take(LONGEST + 1).read_to_end(&mut bytes))
+    };
+    read.map_err(|error| failed(error.to_string()))?;
+    if bytes.len() as u64 > LONGEST {
+        return Err(failed(format!("it is longer than {LONGEST} bytes")));
+    }
+    Ok(bytes)
+}
+
+/// What is in the vessels named, or in all.
+fn whose(ledger: &Ledger, words: &[String], clock: &Clock) -> Result<String, Fault> {
+    let named = words.iter().map(|word| vessel(ledger, word));
+    let mut vessels = named.collect::<Result<Vec<u32>, Fault>>()?;
+    if vessels.is_empty() {
+        vessels.extend(ledger.vessels());
+    }
+    Ok(reports::whose(ledger, &vessels, clock)?)
+}
+
+/// Where flour of an origin is. Only a span that ends before it starts is refused.
+fn recall(
+    ledger: &Ledger,
+    origin: &str,
+    span: Option<&(String, String)>,
+    clock: &Clock,
+) -> Result<String, Fault> {
+    let minute = |word: &str| clock.read(word).map_err(Fault::Use);
+    let origin = vessel(ledger, origin)?;
+    let Some((first, last)) = span else {
+        return Ok(reports::recall(ledger, origin, None, clock)?);
+    };
+    let span = (minute(first)?, minute(last)?);
+    let answer = reports::recall(ledger, origin, Some(span), clock);
+    answer.map_err(|refusal| Fault::Refused(format!("{refusal}: {first} is after {last}")))
+}
+
+/// The vessel that a word names.
+fn vessel(ledger: &Ledger, word: &str) -> Result<u32, Fault> {
+    let names = &ledger.sheet.names;
+    let unknown = || format!("{}: {}", Refusal::NoVessel, vessels::unknown(names, word));
+    vessels::find(names, word).ok_or_else(|| Fault::Refused(unknown()))
+}
+
+/// An answer, and what there is to say of the movement where the sheet stopped.
+fn answered(command: &Command, out: Vec<u8>, stop: Option<(Stop, usize)>) -> Answer {
+    let file = command.file.display();
+    let (status, err) = match stop {
+        None => (0, String::new()),
+        Some((Stop { index, refusal }, line)) => {
+            let place = format!("stopped at movement {index}, line {line} of the text");
+            (1, format!("lots: {file}: {place}: {refusal}\n"))
+        }
+    };
+    Answer { status, out, err }
+}
+
+/// The answer to a sheet that cannot be read: the listing has its number, the check says where.
+fn refused(command: &Command, given: &[u8], refusal: Refusal) -> Result<Answer, Fault> {
+    let place = check::place(given, refusal);
+    let file = command.file.display();
+    let (out, err) = match command.verb {
+        Verb::Check => {
+            let out = format!("not fit: {refusal}\n  {place}\n");
+            (out.into(), format!("lots: {file}: {refusal}\n"))
+        }
+        Verb::List => {
+            let out = listing::list(given).map_err(Fault::Missing)?;
+            (out, format!("lots: {file}: {refusal}: {place}\n"))
+        }
+        _ => (Vec::new(), format!("lots: {file}: {refusal}: {place}\n")),
+    };
+    Ok(Answer {
+        status: 1,
+        out,
+        err,
+    })
+}
+
+/// A text that makes no sheet.
+fn refused_line(command: &Command, fault: &LineFault) -> Fault {
+    let (file, line, why) = (command.file.display(), fault.line, &fault.why);
+    Fault::Refused(match fault.refusal {
+        Some(refusal) => format!("{file}: line {line}: {refusal}: {why}"),
+        None => format!("{file}: line {line}: {why}"),
+    })
+}
