@@ -2,13 +2,11 @@
 
 use crate::clock::Clock;
 use crate::ledger::Ledger;
-use crate::sheet::{NAME_BYTES, RULES};
+use crate::sheet::RULES;
 use crate::text;
-use lumchaki::{Refusal, Stop, MOVEMENTS, VESSELS};
-
-/// The bytes before the names, and of a movement.
-const HEADER: usize = 24;
-const MOVEMENT_BYTES: usize = 12;
+use lumchaki::{
+    Refusal, Stop, MOVEMENTS, MOVEMENT_BYTES, NAME_BYTES, SHEET_HEADER as HEADER, VESSELS,
+};
 
 /// The fields of the header by the byte where they start.
 const RULE: usize = 4;

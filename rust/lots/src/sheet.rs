@@ -1,13 +1,10 @@
 //! A sheet taken apart, and put together again, by the proved library.
 
 use crate::clock::Clock;
-use lumchaki::{Refusal, Transfer};
+use lumchaki::{Refusal, Transfer, MOVEMENTS, MOVEMENT_BYTES, NAME_BYTES, SHEET_HEADER, VESSELS};
 
-/// The bytes of a name in a sheet.
-pub const NAME_BYTES: usize = 8;
-
-/// The bytes of the longest sheet that can be written: 64 names and 4,096 movements.
-const LONGEST: usize = 24 + NAME_BYTES * lumchaki::VESSELS + 12 * lumchaki::MOVEMENTS;
+/// The bytes of the longest sheet.
+const LONGEST: usize = SHEET_HEADER + NAME_BYTES * VESSELS + MOVEMENT_BYTES * MOVEMENTS;
 
 /// The words for the rules, by their number.
 pub const RULES: [&str; 4] = [

@@ -12,13 +12,9 @@
 //! line `start Mon` minutes may be written as `Tue-06:00`.
 
 use crate::clock::{number, Clock, Start};
-use crate::sheet::{Sheet, NAME_BYTES, RULES};
+use crate::sheet::{Sheet, RULES};
 use crate::vessels::unknown;
-use lumchaki::{Refusal, Transfer, MOVEMENTS, VESSELS};
-
-/// The lines of remarks and rule before the first vessel, and of remarks before the first movement.
-const BEFORE_VESSELS: usize = 3;
-const BEFORE_MOVEMENTS: usize = 1;
+use lumchaki::{Refusal, Transfer, MOVEMENTS, NAME_BYTES, VESSELS};
 
 /// How a movement is written.
 const MOVEMENT: &str = "MINUTE FROM -> TO GRAMS g [age MINUTES]";
@@ -48,10 +44,9 @@ pub struct LineFault {
 impl Text {
     /// The text that `write` gives of a sheet.
     pub fn of(sheet: Sheet, clock: &Clock) -> Text {
-        let start = usize::from(clock.start.is_some());
-        let before = BEFORE_VESSELS + start + sheet.names.len() + BEFORE_MOVEMENTS;
+        let first = 1 + before_movements(&sheet, clock).lines().count();
         Text {
-            lines: (before + 1..).take(sheet.movements.len()).collect(),
+            lines: (first..).take(sheet.movements.len()).collect(),
             sheet,
             clock: *clock,
         }
@@ -60,6 +55,16 @@ impl Text {
 
 /// The text of a sheet.
 pub fn write(sheet: &Sheet, clock: &Clock) -> String {
+    let mut text = before_movements(sheet, clock);
+    let widths = Widths::of(sheet, clock);
+    for m in &sheet.movements {
+        text += &movement(sheet, clock, m, &widths);
+        text += "\n";
+    }
+    text
+}
+
+fn before_movements(sheet: &Sheet, clock: &Clock) -> String {
     let rules: Vec<String> = (0..).zip(RULES).map(|(n, r)| format!("{n} {r}")).collect();
     let mut text = format!("# Rules: {}\nrule {}\n", rules.join(", "), sheet.rule);
     if let Some(start) = clock.start {
@@ -69,13 +74,7 @@ pub fn write(sheet: &Sheet, clock: &Clock) -> String {
     for name in &sheet.names {
         text += &format!("vessel {name}\n");
     }
-    text += &format!("# Movements: {MOVEMENT}\n");
-    let widths = Widths::of(sheet, clock);
-    for m in &sheet.movements {
-        text += &movement(sheet, clock, m, &widths);
-        text += "\n";
-    }
-    text
+    text + &format!("# Movements: {MOVEMENT}\n")
 }
 
 /// The columns of the movements.

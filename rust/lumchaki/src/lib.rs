@@ -41,7 +41,10 @@ pub mod raw;
 mod sheet;
 
 pub use book::{held, open, spread, transfer, whole, Moved};
-pub use calls::{places, Head, Piece, Refusal, Transfer, MOVEMENTS, PLACES, VESSELS};
+pub use calls::{
+    places, Head, Piece, Refusal, Transfer, MOVEMENTS, MOVEMENT_BYTES, NAME_BYTES, PLACES,
+    SHEET_HEADER, VESSELS,
+};
 pub use sheet::{movement, name, read, run, write, Run, Stop, Summary};
 
 /// Turns an answer's number into a result.
