@@ -14,7 +14,11 @@ const VESSEL_COUNT: usize = 6;
 const MOVEMENT_COUNT: usize = 8;
 
 /// What is said of a sheet that can be read, with the line of the movement where it stops, if it does.
-pub fn report(ledger: &Ledger, clock: &Clock, stop: Option<(Stop, usize)>) -> String {
+pub fn report(
+    ledger: &Ledger,
+    clock: &Clock,
+    stop: Option<(Stop, usize)>,
+) -> Result<String, Refusal> {
     let (sheet, head) = (&ledger.sheet, &ledger.head);
     let verdict = match stop {
         None => "fit\n".to_string(),
@@ -24,14 +28,34 @@ pub fn report(ledger: &Ledger, clock: &Clock, stop: Option<(Stop, usize)>) -> St
         }
     };
     let (rule, accepted, movements) = (sheet.rule, head.accepted, sheet.movements.len());
+    let minutes = match sheet.movements.first() {
+        Some(first) if accepted > 0 => clock.show_span((first.minute, head.last)),
+        _ => "none".to_string(),
+    };
     let lines = [
         format!("  rule       {rule}, {}\n", RULES[rule as usize]),
         format!("  vessels    {}\n", head.vessels),
         format!("  accepted   {accepted} of {movements} movements\n"),
+        format!("  minutes    {minutes}\n"),
         format!("  pieces     {}\n", head.pieces),
         format!("  even       {}\n", ledger.even),
     ];
-    verdict + &lines.concat()
+    Ok(verdict + &lines.concat() + &born(ledger)?)
+}
+
+/// What was born in each origin. One that receives flour too gave more than it had, which may be a slip of the sheet.
+fn born(ledger: &Ledger) -> Result<String, Refusal> {
+    let accepted = &ledger.sheet.movements[..ledger.head.accepted as usize];
+    let line = |(origin, weight): (u32, u64)| {
+        let received = accepted.iter().any(|m| m.destination == origin);
+        let more = if received {
+            ", more than it had received"
+        } else {
+            ""
+        };
+        format!("  born       {} {weight} g{more}\n", ledger.name(origin))
+    };
+    Ok(ledger.origins()?.into_iter().map(line).collect())
 }
 
 /// Where a sheet is that was refused when it was read: field, vessel or movement, and what it has there.
@@ -56,18 +80,20 @@ fn number(bytes: &[u8], at: usize, size: usize) -> Option<u32> {
 }
 
 fn no_sheet(bytes: &[u8]) -> String {
-    if bytes.len() < HEADER {
-        return format!(
-            "it has {} bytes, and a sheet has at least {HEADER}",
-            bytes.len()
-        );
-    }
-    let mark = bytes[..4].escape_ascii();
     let text = match text::looks_like(bytes) {
-        true => "; it looks like a text, and `lots sheet` makes a sheet of it",
+        true => "; it looks like a text: lots sheet TEXT >SHEET",
         false => "",
     };
-    format!("field mark, bytes 0 to 3: \"{mark}\", not \"PROV\"{text}")
+    match bytes.len() {
+        0 => "it is empty".to_string(),
+        length if length < HEADER => {
+            format!("it has {length} bytes, and a sheet has at least {HEADER}{text}")
+        }
+        _ => {
+            let mark = bytes[..4].escape_ascii();
+            format!("field mark, bytes 0 to 3: \"{mark}\", not \"PROV\"{text}")
+        }
+    }
 }
 
 fn counted(bytes: &[u8], field: &str, at: usize, size: usize, range: &str) -> Option<String> {
@@ -150,30 +176,41 @@ fn movement(bytes: &[u8]) -> Option<String> {
     })
 }
 
-/// Where a run stopped, and what the movement met there.
-fn stopped(ledger: &Ledger, clock: &Clock, stop: &Stop, line: usize) -> String {
-    let (sheet, head) = (&ledger.sheet, &ledger.head);
-    let m = &sheet.movements[stop.index as usize];
+/// The movement where a run stopped, and what it met there.
+pub fn because(ledger: &Ledger, clock: &Clock, stop: &Stop) -> (String, String) {
+    let m = &ledger.sheet.movements[stop.index as usize];
     let destination = ledger.name(m.destination);
     let met = match stop.refusal {
         Refusal::SameVessel => format!("{destination} is source and destination"),
         Refusal::NoWeight => "its weight is 0".to_string(),
-        Refusal::ClockBack => format!("the minute before it is {}", clock.show(head.last)),
-        Refusal::BeforeTime => format!("its age, {}, is above its minute, {}", m.age, m.minute),
+        Refusal::ClockBack => format!("the minute before it is {}", clock.show(ledger.head.last)),
+        Refusal::BeforeTime => {
+            let (age, minute) = (m.age, m.minute);
+            format!("its age, {age}, is above its minute, {minute}; let minute 0 be earlier")
+        }
         Refusal::Overfull => {
-            let balance = ledger.balance(m.destination);
-            format!(
-                "{destination} holds {balance} g, and a vessel holds at most {}",
-                u32::MAX
-            )
+            let (balance, most) = (ledger.balance(m.destination), u32::MAX);
+            format!("{destination} holds {balance} g, and a vessel holds at most {most}")
         }
         refusal => refusal.word().to_string(),
     };
-    let shown = text::movement(sheet, clock, m, &text::Widths::default());
-    let at = HEADER + NAME_BYTES * sheet.names.len() + MOVEMENT_BYTES * stop.index as usize;
+    let shown = text::movement(&ledger.sheet, clock, m, &text::Widths::default());
+    (shown, met)
+}
+
+/// Where a run stopped, for people.
+fn stopped(ledger: &Ledger, clock: &Clock, stop: &Stop, line: usize) -> String {
+    let (movement, met) = because(ledger, clock, stop);
+    let names = NAME_BYTES * ledger.sheet.names.len();
+    let at = HEADER + names + MOVEMENT_BYTES * stop.index as usize;
     let last = at + MOVEMENT_BYTES - 1;
-    format!(
-        "  movement   {}, from 0 on; bytes {at} to {last}\n  line       {line} of the text: {shown}\n  because    {met}\n",
-        stop.index
-    )
+    [
+        format!(
+            "  movement   {} (the first is 0), bytes {at} to {last}\n",
+            stop.index
+        ),
+        format!("  line       {line} of `lots text`: {movement}\n"),
+        format!("  because    {met}\n"),
+    ]
+    .concat()
 }

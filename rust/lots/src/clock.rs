@@ -90,23 +90,29 @@ impl Clock {
 
     /// Reads a minute: a number, or a weekday and a time.
     pub fn read(&self, word: &str) -> Result<u32, String> {
-        if word.starts_with(|c: char| c.is_ascii_digit()) {
-            return number(word);
+        if word.contains(':') && !is_moment(word) {
+            return Err(format!("{word}: a time has its weekday, as Tue-06:00"));
         }
         match self.start {
+            _ if word.starts_with(|c: char| c.is_ascii_digit()) => number(word),
             Some(start) => start.minute(word),
-            None if weekday(word.get(..3).unwrap_or("")).is_some() => Err(format!(
-                "{word}: say with --start when minute 0 was, as --start Mon"
+            None if is_moment(word) => Err(format!(
+                "{word}: it is not said when minute 0 was, as --start Mon, or start Mon in a text"
             )),
             None => Err(format!("{word}: a minute is a number")),
         }
     }
 }
 
+/// Whether a word starts with a weekday.
+pub fn is_moment(word: &str) -> bool {
+    word.get(..3).is_some_and(|day| weekday(day).is_some())
+}
+
 /// A decimal number of 32 bits.
 pub fn number(word: &str) -> Result<u32, String> {
     if word.is_empty() || !word.bytes().all(|b| b.is_ascii_digit()) {
-        return Err(format!("{word}: not a number"));
+        return Err(format!("{word}: not a whole number in digits alone"));
     }
     let over = |_| format!("{word}: a number is at most {}", u32::MAX);
     word.parse().map_err(over)
@@ -167,10 +173,11 @@ mod tests {
         ] {
             assert!(clock("Mon").read(word).is_err(), "{word}");
         }
-        assert!(Clock::default()
-            .read("Tue-06:00")
-            .unwrap_err()
-            .contains("--start"));
+        let unknown = Clock::default().read("Tue-06:00").unwrap_err();
+        assert!(unknown.contains("--start"));
+        for word in ["06:00", "tuesday:06:00:00x"] {
+            assert!(clock("Mon").read(word).is_err(), "{word}");
+        }
         assert!(number("4294967296").is_err());
     }
 }

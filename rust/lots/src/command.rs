@@ -3,6 +3,7 @@
 use crate::clock::{number, Clock, Start};
 use crate::sheet::Cut;
 use std::ffi::OsString;
+use std::path::Path;
 
 /// What is asked of a sheet.
 #[derive(Clone, Debug)]
@@ -43,6 +44,27 @@ pub struct Command {
     pub clock: Clock,
 }
 
+impl Verb {
+    /// Whether the answer is for people to read and keep.
+    pub fn is_for_people(&self) -> bool {
+        matches!(
+            self,
+            Verb::Whose(_) | Verb::Where(..) | Verb::Whole { csv: false }
+        )
+    }
+}
+
+impl Command {
+    /// The name of the sheet, without its folders.
+    pub fn title(&self) -> String {
+        let name = Path::new(&self.file).file_name().unwrap_or(&self.file);
+        match name.to_str() {
+            Some("-") => "standard input".to_string(),
+            _ => name.to_string_lossy().into_owned(),
+        }
+    }
+}
+
 /// The options, and the words beside them.
 #[derive(Default)]
 struct Line {
@@ -62,7 +84,7 @@ pub fn parse(arguments: &[OsString]) -> Result<Option<Command>, String> {
             false => Err("no sheet is named".to_string()),
         };
     };
-    if line.help || first == "help" {
+    if line.help || first == "help" || first == "-h" {
         return Ok(None);
     }
     let word = first.to_string_lossy();
@@ -104,7 +126,9 @@ fn verb(word: &str, rest: &[OsString], csv: bool) -> Result<Option<(Verb, OsStri
             let span = match (words.next(), words.next()) {
                 (Some(from), Some(to)) => Some((from, to)),
                 (None, _) => None,
-                (Some(_), None) => return Err("where: a span has two ends".to_string()),
+                (Some(_), None) => {
+                    return Err("where: a span has two ends, FROM and TO".to_string())
+                }
             };
             Verb::Where(origin, span)
         }

@@ -92,21 +92,39 @@ impl Ledger {
 
     /// The weight that a report has, with the births of its pieces; none for no weight.
     fn share(&self, holder: u32, origin: u32, weight: u32, span: (u32, u32)) -> Option<Share> {
-        let births = self
-            .pieces()
-            .filter(|p| p.holder == holder && p.origin == origin)
-            .map(|p| p.birth)
-            .filter(|birth| (span.0..=span.1).contains(birth));
-        let births = births.fold(None, |seen: Option<(u32, u32)>, birth| {
-            let (first, last) = seen.unwrap_or((birth, birth));
-            Some((first.min(birth), last.max(birth)))
-        })?;
+        let born = |p: &Piece| p.origin == origin && (span.0..=span.1).contains(&p.birth);
+        let births = self.births(|p| p.holder == holder && born(p))?;
         Some(Share {
             holder,
             origin,
             weight,
             births,
         })
+    }
+
+    /// The earliest and the latest birth among some of the pieces; none if there are none.
+    pub fn births(&self, some: impl Fn(&Piece) -> bool) -> Option<(u32, u32)> {
+        let births = self.pieces().filter(some).map(|p| p.birth);
+        births.fold(None, |seen: Option<(u32, u32)>, birth| {
+            let (first, last) = seen.unwrap_or((birth, birth));
+            Some((first.min(birth), last.max(birth)))
+        })
+    }
+
+    /// The origins whose flour is in the vessels, each with its weight, heaviest first.
+    pub fn origins(&self) -> Result<Vec<(u32, u64)>, Refusal> {
+        let report = self.whole()?;
+        let column = |origin| {
+            report
+                .iter()
+                .skip(origin as usize)
+                .step_by(self.head.vessels as usize)
+        };
+        let weight = |origin| (origin, column(origin).map(|&w| u64::from(w)).sum());
+        let mut origins: Vec<(u32, u64)> = self.vessels().map(weight).collect();
+        origins.retain(|&(_, weight)| weight > 0);
+        origins.sort_by_key(|&(_, weight)| Reverse(weight));
+        Ok(origins)
     }
 }
 

@@ -32,6 +32,8 @@ pub struct Answer {
     pub status: u8,
     /// For standard output.
     pub out: Vec<u8>,
+    /// Whether that is a sheet, which no terminal shows.
+    pub sheet: bool,
     /// For standard error.
     pub err: String,
 }
@@ -47,15 +49,15 @@ pub fn answer(arguments: &[OsString], input: &mut dyn Read) -> Answer {
         Err(why) => Err(Fault::Use(why)),
     };
     answered.unwrap_or_else(|fault| {
-        let (status, why) = match fault {
-            Fault::Use(why) => (2, format!("{why}\n\n{}", USAGE.trim_end())),
-            Fault::File(why) => (2, why),
-            Fault::Refused(why) => (1, why),
-            Fault::Missing(why) => (3, why),
+        let (status, usage, why) = match fault {
+            Fault::Use(why) => (2, format!("{USAGE}\n"), why),
+            Fault::File(why) => (2, String::new(), why),
+            Fault::Refused(why) => (1, String::new(), why),
+            Fault::Missing(why) => (3, String::new(), why),
         };
         Answer {
             status,
-            err: format!("lots: {why}\n"),
+            err: format!("{usage}lots: {why}\n"),
             ..Answer::default()
         }
     })

@@ -1,8 +1,11 @@
 //! `lots`: whose flour is in every vessel, and since when.
 
 use std::ffi::OsString;
-use std::io::{stderr, stdin, stdout, ErrorKind, Write};
+use std::io::{stderr, stdin, stdout, ErrorKind, IsTerminal, Write};
 use std::process::ExitCode;
+
+/// The status where a sheet would go to a terminal.
+const WRONG_USE: u8 = 2;
 
 /// The status where the answer could not be written.
 const UNWRITTEN: u8 = 3;
@@ -11,6 +14,10 @@ fn main() -> ExitCode {
     let arguments: Vec<OsString> = std::env::args_os().skip(1).collect();
     let answer = lots::answer(&arguments, &mut stdin().lock());
     let mut out = stdout().lock();
+    if answer.sheet && out.is_terminal() {
+        eprintln!("lots: a sheet is no text to show: lots sheet TEXT >SHEET");
+        return ExitCode::from(WRONG_USE);
+    }
     let written = out.write_all(&answer.out).and_then(|()| out.flush());
     let _ = stderr().write_all(answer.err.as_bytes());
     match written {

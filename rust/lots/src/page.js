@@ -37,6 +37,17 @@ function momentOf(word) {
   return since > LARGEST ? `${word} is after minute ${LARGEST}` : since;
 }
 
+/** A minute as clock.rs shows it. */
+function show(minute) {
+  if (!DATA.start) return String(minute);
+  const since = DATA.start[1] + minute;
+  const [days, hour] = [Math.floor(since / 1440), Math.floor((since % 1440) / 60)];
+  const day = DAYS[(DATA.start[0] + days) % 7];
+  const week = days < 7 ? "" : `+${Math.floor(days / 7)}`;
+  const time = [hour, since % 60].map((part) => String(part).padStart(2, "0")).join(":");
+  return `${day[0].toUpperCase()}${day.slice(1)}${week}-${time}`;
+}
+
 /** The weight of an origin's flour in each vessel, of that born in the span. */
 function spread(source, first, last) {
   const weights = DATA.names.map(() => 0);
@@ -83,6 +94,14 @@ function born(first, last) {
   return last ? `born ${last} or earlier` : "born at any time";
 }
 
+/** What there is in place of flour that is nowhere, as `lots where` says it. */
+function nowhere(source) {
+  const births = DATA.pieces.filter((piece) => piece[1] === source).map((piece) => piece[2]);
+  if (births.length === 0) return `no flour was born in ${DATA.names[source]}`;
+  const [first, last] = [Math.min(...births), Math.max(...births)].map(show);
+  return `the flour of ${DATA.names[source]} that is there was ${born(first, last)}`;
+}
+
 function tell(weights, source, when) {
   const name = (vessel) => DATA.names[vessel];
   const vessels = weights.map((_, vessel) => vessel);
@@ -92,7 +111,7 @@ function tell(weights, source, when) {
   const held = hit.map((vessel) => `${name(vessel)} ${weights[vessel]} g`);
   say("answer", [
     [`${total} g in ${hit.length} of ${vessels.length} vessels:`, `flour of ${name(source)}, ${when}.`],
-    ["Recall:", ...(held.length > 0 ? held : ["none"])],
+    ["Recall:", ...(held.length > 0 ? held : [`none: ${nowhere(source)}`])],
     ["Clear:", ...(clear.length > 0 ? clear.map(name) : ["none"])],
   ]);
 }

@@ -1,11 +1,11 @@
 //! The page: one HTML file that fetches nothing. It has a picture of every vessel, the same as a table, and a
 //! box for recalls, whose script adds up the pieces that stand in the page as numbers.
 
+use crate::check::because;
 use crate::clock::Clock;
 use crate::ledger::{percent, Ledger, Share};
-use crate::sheet::RULES;
+use crate::sheet::{Cut, RULES};
 use lumchaki::{Piece, Refusal};
-use std::cmp::Reverse;
 
 const STYLE: &str = include_str!("page.css");
 const SCRIPT: &str = include_str!("page.js");
@@ -33,6 +33,8 @@ const COLOURS: usize = 16;
 
 /// What is shown, gathered once.
 struct Page<'l> {
+    title: &'l str,
+    cut: &'l Cut,
     ledger: &'l Ledger,
     clock: &'l Clock,
     /// What each vessel holds, heaviest first.
@@ -41,18 +43,14 @@ struct Page<'l> {
     origins: Vec<(u32, u64)>,
 }
 
-/// The page of a ledger.
-pub fn page(ledger: &Ledger, clock: &Clock) -> Result<String, Refusal> {
+/// The page of a ledger, under the name of its sheet, with how much of that was looked at.
+pub fn page(title: &str, cut: &Cut, ledger: &Ledger, clock: &Clock) -> Result<String, Refusal> {
     let held = ledger.vessels().map(|vessel| ledger.held(vessel));
     let held = held.collect::<Result<Vec<Vec<Share>>, Refusal>>()?;
-    let weight = |origin| {
-        let shares = held.iter().flatten().filter(|s| s.origin == origin);
-        (origin, shares.map(|s| u64::from(s.weight)).sum::<u64>())
-    };
-    let mut origins: Vec<(u32, u64)> = ledger.vessels().map(weight).collect();
-    origins.retain(|&(_, weight)| weight > 0);
-    origins.sort_by_key(|&(_, weight)| Reverse(weight));
+    let origins = ledger.origins()?;
     let page = Page {
+        title,
+        cut,
         ledger,
         clock,
         held,
@@ -90,23 +88,42 @@ impl Page<'_> {
             _ => "none".to_string(),
         };
         let (accepted, all) = (head.accepted, sheet.movements.len());
-        let facts = [
+        let mut facts = vec![
+            format!("sheet: {}", html(self.title)),
             format!("rule {}, {}", sheet.rule, RULES[sheet.rule as usize]),
             format!("vessels: {}", head.vessels),
             format!("movements accepted: {accepted} of {all}"),
             format!("minutes: {span}"),
             format!("{} g in all", self.origins.iter().map(|o| o.1).sum::<u64>()),
         ];
-        let facts = facts.map(|fact| format!("<li>{fact}</li>\n")).concat();
-        let stop = self.ledger.stop.map_or(String::new(), |stop| {
-            format!(
-                r#"<p class="stop"><strong>Stopped at movement {} (counted from 0): {}.</strong>
-What follows is how it stood before it.</p>
-"#,
-                stop.index, stop.refusal
-            )
-        });
+        let until = self
+            .cut
+            .until
+            .as_ref()
+            .map(|m| format!("no movement after {}", html(m)));
+        let first = self
+            .cut
+            .movements
+            .map(|n| format!("no movement behind the first {n}"));
+        facts.extend(until.into_iter().chain(first));
+        let facts: String = facts.iter().map(|f| format!("<li>{f}</li>\n")).collect();
+        let stop = self.stop();
         format!("<header>\n<h1>Whose flour is in every vessel</h1>\n<ul class=\"facts\">\n{facts}</ul>\n{stop}</header>\n")
+    }
+
+    /// Where the run stopped, if it did.
+    fn stop(&self) -> String {
+        let Some(stop) = self.ledger.stop else {
+            return String::new();
+        };
+        let (movement, why) = because(self.ledger, self.clock, &stop);
+        let (movement, why) = (html(&movement), html(&why));
+        format!(
+            r#"<p class="stop"><strong>Stopped at movement {} (the first is 0): {}.</strong>
+{movement}: {why}. What follows is how it stood before it.</p>
+"#,
+            stop.index, stop.refusal
+        )
     }
 
     fn recall(&self) -> String {

@@ -38,6 +38,9 @@ pub fn recall(
     for share in &hit {
         text += &line(ledger, share.holder, share, clock);
     }
+    if hit.is_empty() {
+        text += &nowhere(ledger, origin, clock)?;
+    }
     let (sum, count, vessels) = (total(&hit), hit.len(), ledger.head.vessels);
     text += &format!("total    {sum:12} g in {count} of {vessels} vessels\n");
     let clear = |v: &u32| hit.iter().all(|share| share.holder != *v);
@@ -51,6 +54,29 @@ pub fn recall(
         false => wrapped("clear", &clear),
     };
     Ok(text)
+}
+
+/// What there is in place of flour that is nowhere: a slip in the span or the origin looks like a recall of nothing.
+fn nowhere(ledger: &Ledger, origin: u32, clock: &Clock) -> Result<String, Refusal> {
+    let name = ledger.name(origin);
+    if let Some(births) = ledger.births(|p| p.origin == origin) {
+        let born = clock.show_span(births);
+        return Ok(format!(
+            "  none: the flour of {name} that is there was born {born}\n"
+        ));
+    }
+    let origins = ledger.origins()?;
+    let names: Vec<&str> = origins
+        .iter()
+        .map(|&(origin, _)| ledger.name(origin))
+        .collect();
+    Ok(match names.is_empty() {
+        true => format!("  none: no flour was born in {name}, nor anywhere\n"),
+        false => wrapped(
+            &format!("  none: no flour was born in {name}, but in"),
+            &names,
+        ),
+    })
 }
 
 /// A share under the name of its holder or its origin. The percentage is of what is in the holder.

@@ -14,6 +14,14 @@ pub const RULES: [&str; 4] = [
     "youngest first",
 ];
 
+/// The rules with their numbers.
+pub fn rules() -> String {
+    let rules = (0..)
+        .zip(RULES)
+        .map(|(number, rule)| format!("{number} {rule}"));
+    rules.collect::<Vec<String>>().join(", ")
+}
+
 /// A sheet that can be read.
 #[derive(Clone, Debug, PartialEq, Eq)]
 pub struct Sheet {

@@ -34,9 +34,10 @@ impl From<Refusal> for Fault {
 
 /// Carries out a command.
 pub fn carry_out(command: &Command, input: &mut dyn Read) -> Result<Answer, Fault> {
-    let given = bytes(&command.file, input).map_err(|why| match command.bare {
-        true => Fault::Use(format!("no such command, and {why}")),
-        false => Fault::File(why),
+    let given = bytes(&command.file, input).map_err(|why| match command.verb {
+        _ if command.bare => Fault::Use(format!("no such command, and {why}")),
+        Verb::Whose(_) | Verb::Where(..) => Fault::File(format!("{why} (the sheet comes first)")),
+        _ => Fault::File(why),
     })?;
     let mut text = match (&command.verb, Sheet::read(&given)) {
         (Verb::Sheet, _) => {
@@ -51,18 +52,63 @@ pub fn carry_out(command: &Command, input: &mut dyn Read) -> Result<Answer, Faul
     let stop = ledger
         .stop
         .map(|stop| (stop, text.lines[stop.index as usize]));
-    let out = match &command.verb {
-        Verb::List => listing::list(&ledger.sheet.bytes()?).map_err(Fault::Missing)?,
-        Verb::Whose(words) => whose(&ledger, words, &clock)?.into(),
-        Verb::Where(origin, span) => recall(&ledger, origin, span.as_ref(), &clock)?.into(),
-        Verb::Whole { csv: true } => reports::csv(&ledger)?.into(),
-        Verb::Whole { csv: false } => reports::whole(&ledger)?.into(),
-        Verb::Check => check::report(&ledger, &clock, stop).into(),
-        Verb::Text => text::write(&ledger.sheet, &clock).into(),
-        Verb::Sheet => ledger.sheet.bytes()?,
-        Verb::Page => page::page(&ledger, &clock)?.into(),
+    let mut out = shown(command, &ledger, &clock, stop)?;
+    let (mut status, mut err) = (0, String::new());
+    if let Some((stop, line)) = stop {
+        status = 1;
+        err = stopped(command, &ledger, &clock, &stop, line);
+        if command.verb.is_for_people() {
+            out.splice(0..0, stood_before(&stop).into_bytes());
+        }
+    }
+    Ok(Answer {
+        status,
+        out,
+        sheet: matches!(command.verb, Verb::Sheet),
+        err,
+    })
+}
+
+/// What a command shows of a ledger. A stop has its line in the text.
+fn shown(
+    command: &Command,
+    ledger: &Ledger,
+    clock: &Clock,
+    stop: Option<(Stop, usize)>,
+) -> Result<Vec<u8>, Fault> {
+    let text = match &command.verb {
+        Verb::List => return listing::list(&ledger.sheet.bytes()?).map_err(Fault::Missing),
+        Verb::Sheet => return Ok(ledger.sheet.bytes()?),
+        Verb::Whose(words) => whose(ledger, words, clock)?,
+        Verb::Where(origin, span) => recall(ledger, origin, span.as_ref(), clock)?,
+        Verb::Whole { csv: true } => reports::csv(ledger)?,
+        Verb::Whole { csv: false } => reports::whole(ledger)?,
+        Verb::Check => check::report(ledger, clock, stop)?,
+        Verb::Text => text::write(&ledger.sheet, clock),
+        Verb::Page => page::page(&command.title(), &command.cut, ledger, clock)?,
     };
-    Ok(answered(command, out, stop))
+    Ok(text.into_bytes())
+}
+
+/// The first line of an answer that people may keep without what went to standard error.
+fn stood_before(stop: &Stop) -> String {
+    let Stop { index, refusal } = stop;
+    format!(
+        "as it stood before movement {index} (the first is 0), where the sheet stops: {refusal}\n"
+    )
+}
+
+/// What is said of the movement where a sheet stops. The line is that of the text given, or of the one that
+/// `lots text` would print.
+fn stopped(command: &Command, ledger: &Ledger, clock: &Clock, stop: &Stop, line: usize) -> String {
+    let Stop { index, refusal } = stop;
+    let file = command.file.display();
+    let (_, why) = check::because(ledger, clock, stop);
+    let place = match command.verb {
+        Verb::Sheet => format!("line {line}: stopped at movement {index}"),
+        _ => format!("stopped at movement {index}, line {line} of `lots text`"),
+    };
+    format!("lots: {file}: {place}: {refusal}: {why}\n")
 }
 
 /// The bytes of a file or of standard input.
@@ -105,7 +151,12 @@ fn recall(
     };
     let span = (minute(first)?, minute(last)?);
     let answer = reports::recall(ledger, origin, Some(span), clock);
-    answer.map_err(|refusal| Fault::Refused(format!("{refusal}: {first} is after {last}")))
+    answer.map_err(|refusal| {
+        let (from, to) = span;
+        Fault::Refused(format!(
+            "{refusal}: {first} is minute {from}, and {last} is minute {to}"
+        ))
+    })
 }
 
 /// The vessel that a word names.
@@ -113,19 +164,6 @@ fn vessel(ledger: &Ledger, word: &str) -> Result<u32, Fault> {
     let names = &ledger.sheet.names;
     let unknown = || format!("{}: {}", Refusal::NoVessel, vessels::unknown(names, word));
     vessels::find(names, word).ok_or_else(|| Fault::Refused(unknown()))
-}
-
-/// An answer, and what there is to say of the movement where the sheet stopped.
-fn answered(command: &Command, out: Vec<u8>, stop: Option<(Stop, usize)>) -> Answer {
-    let file = command.file.display();
-    let (status, err) = match stop {
-        None => (0, String::new()),
-        Some((Stop { index, refusal }, line)) => {
-            let place = format!("stopped at movement {index}, line {line} of the text");
-            (1, format!("lots: {file}: {place}: {refusal}\n"))
-        }
-    };
-    Answer { status, out, err }
 }
 
 /// The answer to a sheet that cannot be read: the listing has its number, the check says where.
@@ -147,6 +185,7 @@ fn refused(command: &Command, given: &[u8], refusal: Refusal) -> Result<Answer, 
         status: 1,
         out,
         err,
+        ..Answer::default()
     })
 }
 

@@ -82,7 +82,16 @@ impl Known {
     fn ask(&self, words: &[&str]) -> String {
         let answer = ask_words(words, &self.bytes);
         assert!(answer.status < 2, "{words:?}: {}", answer.err);
-        String::from_utf8(answer.out).expect("text")
+        let shown = String::from_utf8(answer.out).expect("text");
+        // Where the sheet stops, a line before the answer says so.
+        let stopped = shown
+            .split_once('\n')
+            .filter(|(first, _)| first.starts_with("as it stood "));
+        assert_eq!(
+            stopped.is_some(),
+            answer.status == 1 && !words.contains(&"--csv") && words[0] != "page"
+        );
+        stopped.map_or(shown.clone(), |(_, rest)| rest.to_string())
     }
 }
 
@@ -161,7 +170,10 @@ fn recall(known: &Known, origin: u32, span: Option<(u32, u32)>) -> usize {
             .position(|n| n == name)
             .expect("a vessel") as u32
     };
-    let is_share = |line: &&str| line.starts_with("  ") && line.contains(" % ");
+    let is_share = |line: &&str| {
+        let weight = line.split_ascii_whitespace().nth(1);
+        line.starts_with("  ") && weight.is_some_and(|word| word.parse::<u32>().is_ok())
+    };
     let shares = shown.lines().skip(1).take_while(is_share);
     let shares: Vec<Share> = shares
         .map(|line| share_of(line, |n| known.balance(of(n))))
@@ -172,7 +184,10 @@ fn recall(known: &Known, origin: u32, span: Option<(u32, u32)>) -> usize {
         .iter()
         .map(|&(_, weight, _)| u64::from(weight))
         .sum();
-    let rest: Vec<&str> = shown.lines().skip(1 + shares.len()).collect();
+    let mut rest: Vec<&str> = shown.lines().skip(1 + shares.len()).collect();
+    if shares.is_empty() {
+        nowhere(known, origin, &mut rest);
+    }
     let (count, vessels) = (expected.len(), known.names.len());
     let sum: Vec<&str> = rest[0].split_ascii_whitespace().collect();
     assert_eq!(
@@ -193,6 +208,48 @@ fn recall(known: &Known, origin: u32, span: Option<(u32, u32)>) -> usize {
         false => assert_eq!(words, [vec!["clear"], clear].concat()),
     }
     count
+}
+
+/// Where nothing is hit, what there is in its place: the origin's births, or the origins that there are.
+fn nowhere(known: &Known, origin: u32, rest: &mut Vec<&str>) {
+    let total = rest
+        .iter()
+        .position(|line| line.starts_with("total "))
+        .expect("a total");
+    let said: Vec<&str> = rest
+        .drain(..total)
+        .flat_map(|l| l.split_ascii_whitespace())
+        .collect();
+    let (said, name) = (said.join(" "), known.name(origin));
+    let births = known
+        .pieces
+        .iter()
+        .filter(|p| p.origin == origin)
+        .map(|p| p.birth);
+    let wanted = match (births.clone().min(), births.max()) {
+        (Some(first), Some(last)) => {
+            let born = match first == last {
+                true => first.to_string(),
+                false => format!("{first} to {last}"),
+            };
+            format!("none: the flour of {name} that is there was born {born}")
+        }
+        _ if known.pieces.is_empty() => {
+            format!("none: no flour was born in {name}, nor anywhere")
+        }
+        _ => {
+            let born = |v: u32| known.pieces.iter().filter(move |p| p.origin == v);
+            let weight = |v: u32| born(v).map(|p| u64::from(p.weight)).sum::<u64>();
+            let mut origins: Vec<u32> = known.vessels().filter(|&v| weight(v) > 0).collect();
+            origins.sort_by_key(|&v| Reverse(weight(v)));
+            let names: Vec<String> = origins.iter().map(|&v| known.name(v)).collect();
+            format!(
+                "none: no flour was born in {name}, but in {}",
+                names.join(" ")
+            )
+        }
+    };
+    assert_eq!(said, wanted);
 }
 
 fn everything(random: &mut Random, sheet: &Sheet) -> usize {

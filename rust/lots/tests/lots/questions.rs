@@ -5,7 +5,7 @@ use lots::USAGE;
 
 #[test]
 fn usage() {
-    for line in ["--help", "help", "whose --help"] {
+    for line in ["--help", "help", "-h", "whose --help"] {
         assert_eq!(text(line, b""), USAGE, "{line}");
     }
     assert_eq!(text("", b""), USAGE);
@@ -18,12 +18,15 @@ fn wrong_use() {
         ("whose", "whose: no sheet is named"),
         ("sheet", "sheet: no text is named"),
         ("where -", "where: no origin is named"),
-        ("where - MILLER-B 5", "where: a span has two ends"),
+        (
+            "where - MILLER-B 5",
+            "where: a span has two ends, FROM and TO",
+        ),
         ("where - MILLER-B 5 6 7", "7: one word too many"),
         ("where - MILLER-B now 6", "now: a minute is a number"),
         (
             "where - MILLER-B Tue-06:00 Tue-12:00",
-            "Tue-06:00: say with --start",
+            "Tue-06:00: it is not said when minute 0 was",
         ),
         ("check - -", "-: one word too many"),
         ("whos -", "whos: no such command"),
@@ -31,8 +34,8 @@ fn wrong_use() {
         ("whole - --csv=1", "--csv takes no value"),
         ("whole - --tsv", "--tsv: no such option"),
         ("whose - --until", "--until has no value"),
-        ("whose - --until 5x", "5x: not a number"),
-        ("whose - --movements -1", "-1: not a number"),
+        ("whose - --until 5x", "5x: not a whole number"),
+        ("whose - --movements -1", "-1: not a whole number"),
         ("whose - --start Someday", "Someday: a start is a weekday"),
         ("--csv", "no sheet is named"),
         ("whos", "no such command, and whos: "),
@@ -40,12 +43,8 @@ fn wrong_use() {
     for (line, why) in wrong {
         let answer = ask(line, &sheet);
         assert_eq!((answer.status, answer.out.len()), (2, 0), "{line}");
-        assert!(
-            answer.err.starts_with(&format!("lots: {why}")),
-            "{line}: {}",
-            answer.err
-        );
-        assert!(answer.err.ends_with(USAGE), "{line}");
+        let wanted = format!("{USAGE}\nlots: {why}");
+        assert!(answer.err.starts_with(&wanted), "{line}: {}", answer.err);
     }
     let missing = ask("whose no/such/file", b"");
     assert_eq!((missing.status, missing.out.len()), (2, 0));
@@ -82,7 +81,10 @@ fn vessels_by_name_or_number() {
     let back = ask("where - 1 1800 1799", &sheet);
     assert_eq!(
         (back.status, back.err.as_str()),
-        (1, "lots: span back (12): 1800 is after 1799\n")
+        (
+            1,
+            "lots: span back (12): 1800 is minute 1800, and 1799 is minute 1799\n"
+        )
     );
 }
 

@@ -44,11 +44,7 @@ fn unreadable() -> Vec<(Vec<u8>, Refusal, &'static str)> {
     let mut longer = good().bytes();
     longer.push(0);
     vec![
-        (
-            vec![],
-            Refusal::NoSheet,
-            "it has 0 bytes, and a sheet has at least 24",
-        ),
+        (vec![], Refusal::NoSheet, "it is empty"),
         (
             good().bytes()[..23].to_vec(),
             Refusal::NoSheet,
@@ -62,7 +58,7 @@ fn unreadable() -> Vec<(Vec<u8>, Refusal, &'static str)> {
         (
             crate::file("examples/two-paths.txt"),
             Refusal::NoSheet,
-            "`lots sheet` makes a sheet of it",
+            "it looks like a text: lots sheet TEXT >SHEET",
         ),
         (
             put(4, 2, 4),
@@ -160,7 +156,7 @@ fn stopping() -> Vec<(Vec<u8>, Refusal, &'static str)> {
         (
             moved(Transfer::new([1, 2, 9, 1]).aged(10)),
             Refusal::BeforeTime,
-            "its age, 10, is above its minute, 9",
+            "its age, 10, is above its minute, 9; let minute 0 be earlier",
         ),
         (
             with([0, 1, 9, TOP]),
@@ -199,16 +195,19 @@ fn every_number_that_a_sheet_can_get() {
         let answer = ask("check -", &bytes);
         let out = String::from_utf8(answer.out).expect("text");
         assert!(
-            out.starts_with(&format!("not fit: {refusal}\n  movement   2, ")),
+            out.starts_with(&format!(
+                "not fit: {refusal}\n  movement   2 (the first is 0)"
+            )),
             "{out}"
         );
         assert!(out.contains(&format!("  because    {reason}\n")), "{out}");
         assert!(
-            out.contains("bytes 72 to 83\n  line       10 of the text: "),
+            out.contains("bytes 72 to 83\n  line       10 of `lots text`: "),
             "{out}"
         );
         assert!(out.contains("  accepted   2 of 3 movements\n"), "{out}");
-        let stopped = format!("lots: -: stopped at movement 2, line 10 of the text: {refusal}\n");
+        let place = "stopped at movement 2, line 10 of `lots text`";
+        let stopped = format!("lots: -: {place}: {refusal}: {reason}\n");
         assert_eq!((answer.status, &answer.err), (1, &stopped));
         still_answers(&bytes, &stopped);
         seen.insert(refusal.number());
@@ -235,9 +234,16 @@ fn still_answers(bytes: &[u8], stopped: &str) {
             (1, stopped),
             "{command}"
         );
-        if command != "page -" {
-            let before = text(&format!("{command} --movements 2"), bytes);
-            assert_eq!(String::from_utf8(answer.out).expect("text"), before);
+        let out = String::from_utf8(answer.out).expect("text");
+        let before = text(&format!("{command} --movements 2"), bytes);
+        match command {
+            "page -" => assert!(out.contains("Stopped at movement 2 (the first is 0): ")),
+            "whole - --csv" => assert_eq!(out, before),
+            _ => {
+                let (first, rest) = out.split_once('\n').expect("two lines");
+                assert!(first.starts_with("as it stood before movement 2 (the first is 0), "));
+                assert_eq!(rest, before);
+            }
         }
     }
 }
@@ -254,7 +260,7 @@ fn the_line_of_a_stop() {
         let start = random.one_of(&["", "--start Mon", "--start Thu-04:15"]);
         let check = ask(&format!("check - {start}"), &bytes);
         let shown = String::from_utf8(check.out).expect("text");
-        let Some((place, shown)) = shown.split_once(" of the text: ") else {
+        let Some((place, shown)) = shown.split_once(" of `lots text`: ") else {
             continue;
         };
         let line: usize = words(place)
@@ -262,7 +268,9 @@ fn the_line_of_a_stop() {
             .and_then(|n| n.parse().ok())
             .expect("a line");
         assert!(
-            check.err.contains(&format!(", line {line} of the text: ")),
+            check
+                .err
+                .contains(&format!(", line {line} of `lots text`: ")),
             "{}",
             check.err
         );

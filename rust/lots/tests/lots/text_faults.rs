@@ -12,13 +12,21 @@ fn faults_of_a_text() {
     let faults = [
         ("".to_string(), 1, "there is no rule"),
         ("# nothing\n\n".to_string(), 1, "there is no rule"),
-        ("vessel A\n".to_string(), 1, "the first line is the rule"),
+        (
+            "vessel A\n".to_string(),
+            1,
+            "the rule stands first, as: rule 0",
+        ),
         (
             "\n\nrule 4\n".to_string(),
             3,
-            "rule unknown (2): a rule is 0, 1, 2 or 3",
+            "rule unknown (2): the rules are 0 first in first out, 1 last in",
         ),
-        ("rule x\n".to_string(), 1, "x: not a number"),
+        (
+            "rule x\n".to_string(),
+            1,
+            "x: not a whole number in digits alone; the rules are 0 first in first out",
+        ),
         ("rule 0 1\n".to_string(), 1, "a rule is one number"),
         ("rule 0\nrule 0\n".to_string(), 2, "the rule stands twice"),
         (
@@ -34,7 +42,7 @@ fn faults_of_a_text() {
         (
             "rule 0\nvessel NINECHARS\n".to_string(),
             2,
-            "name (17): NINECHARS: a name is 1 to 8",
+            "name (17): NINECHARS: a name is 1 to 8 letters, digits and signs",
         ),
         ("rule 0\nvessel M\u{dc}HLE\n".to_string(), 2, "name (17): "),
         (
@@ -65,7 +73,37 @@ fn faults_of_a_text() {
         (
             format!("{start}5 MILL -> SILO 1 kg\n"),
             4,
-            "a movement is MINUTE",
+            "weights are in grams; a movement is MINUTE",
+        ),
+        (
+            format!("{start}start Mon\nTue-05:00 MILL -> SILO 1g\n"),
+            5,
+            "a blank stands before g; a movement is MINUTE",
+        ),
+        (
+            format!("{start}5 MILL->SILO 1 g\n"),
+            4,
+            "the arrow is -> with blanks around it; a movement is MINUTE",
+        ),
+        (
+            format!("{start}5 MILL -> SILO 1 g # rye\n"),
+            4,
+            "a remark has a line of its own; a movement is MINUTE",
+        ),
+        (
+            format!("{start}start Mon\n05:00 MILL -> SILO 1 g\n"),
+            5,
+            "05:00: a time has its weekday, as Tue-06:00",
+        ),
+        (
+            format!("{start}5 MILL -> SILO 1 g age 2h\n"),
+            4,
+            "age 2h: not a whole number in digits alone",
+        ),
+        (
+            "r\0u\0l\0e\0 \x000\0\n".to_string(),
+            1,
+            "this is no text of ASCII or UTF-8",
         ),
         (
             format!("{start}5 MILL -> SILO 1 g age\n"),
@@ -76,12 +114,12 @@ fn faults_of_a_text() {
         (
             format!("{start}5 MILL -> SILO 1.5 g\n"),
             4,
-            "1.5: not a number",
+            "weight 1.5: not a whole number in digits alone",
         ),
         (
             format!("{start}5 MILL -> SILO 4294967296 g\n"),
             4,
-            "4294967296: a number is at most 4294967295",
+            "weight 4294967296: a number is at most 4294967295",
         ),
         (
             format!("{start}-5 MILL -> SILO 1 g\n"),
@@ -91,7 +129,7 @@ fn faults_of_a_text() {
         (
             format!("{start}Tue-06:00 MILL -> SILO 1 g\n"),
             4,
-            "Tue-06:00: say with --start",
+            "Tue-06:00: it is not said when minute 0 was, as --start Mon, or start Mon in a text",
         ),
         (
             format!("{start}start Mon\nTue-25:00 MILL -> SILO 1 g\n"),
@@ -136,7 +174,20 @@ fn faults_of_a_text() {
 fn a_text_that_stops() {
     let text = "# a\nrule 0\n\nvessel A\nvessel B\n# b\n5 A -> B 1 g\n\n4 A -> B 1 g\n";
     let answer = ask("sheet -", text.as_bytes());
-    let stopped = "lots: -: stopped at movement 1, line 9 of the text: clock back (8)\n";
+    let stopped =
+        "lots: -: line 9: stopped at movement 1: clock back (8): the minute before it is 5\n";
     assert_eq!((answer.status, answer.err.as_str()), (1, stopped));
     assert_eq!(Sheet::read(&answer.out).map(|s| s.movements.len()), Ok(2));
+}
+
+/// A start stands in the text or in the option; where it stands in both, it is the same.
+#[test]
+fn two_starts() {
+    let text = "rule 0\nstart Mon\nvessel A\nvessel B\nTue-06:00 A -> B 1 g\n".as_bytes();
+    let sheet = ask("sheet -", text);
+    assert_eq!(sheet.status, 0, "{}", sheet.err);
+    assert_eq!(ask("sheet - --start mon-0:00", text), sheet);
+    let differ = ask("sheet - --start Tue", text);
+    let why = "lots: -: line 2: start is Mon-00:00 here and Tue-00:00 in --start\n";
+    assert_eq!((differ.status, differ.err.as_str()), (1, why));
 }
