@@ -4,8 +4,9 @@ use crate::clock::Clock;
 use crate::ledger::Ledger;
 use crate::sheet::RULES;
 use crate::text;
+use crate::tool::MOST;
 use lumchaki::{
-    Refusal, Stop, MOVEMENTS, MOVEMENT_BYTES, NAME_BYTES, SHEET_HEADER as HEADER, VESSELS,
+    Refusal, Stop, Transfer, MOVEMENT_BYTES, NAME_BYTES, SHEET_HEADER as HEADER, VESSELS,
 };
 
 /// The fields of the header by the byte where they start.
@@ -43,19 +44,34 @@ pub fn report(
     Ok(verdict + &lines.concat() + &born(ledger)?)
 }
 
-/// What was born in each origin. One that receives flour too gave more than it had, which may be a slip of the sheet.
+/// What was born in each origin, and whether it had received flour before: then it gave more than it had, which may
+/// be a slip of the sheet.
 fn born(ledger: &Ledger) -> Result<String, Refusal> {
     let accepted = &ledger.sheet.movements[..ledger.head.accepted as usize];
+    let overdrawn = overdrawn(accepted);
     let line = |(origin, weight): (u32, u64)| {
-        let received = accepted.iter().any(|m| m.destination == origin);
-        let more = if received {
-            ", more than it had received"
-        } else {
-            ""
+        let more = match overdrawn[origin as usize] {
+            true => ", more than it had received",
+            false => "",
         };
         format!("  born       {} {weight} g{more}\n", ledger.name(origin))
     };
     Ok(ledger.origins()?.into_iter().map(line).collect())
+}
+
+/// The vessels that received flour and gave more than they had later on.
+fn overdrawn(accepted: &[Transfer]) -> [bool; VESSELS] {
+    let mut balances = [0_u64; VESSELS];
+    let [mut received, mut overdrawn] = [[false; VESSELS]; 2];
+    for m in accepted {
+        let (source, destination) = (m.source as usize, m.destination as usize);
+        let weight = u64::from(m.weight);
+        overdrawn[source] |= received[source] && weight > balances[source];
+        balances[source] = balances[source].saturating_sub(weight);
+        balances[destination] += weight;
+        received[destination] = true;
+    }
+    overdrawn
 }
 
 /// Where a sheet is that was refused when it was read: field, vessel or movement, and what it has there.
@@ -119,15 +135,16 @@ fn layout(bytes: &[u8]) -> Option<String> {
             return counted(bytes, field, at, 4, &due.to_string());
         }
     }
-    let has = bytes.len();
+    let more = if bytes.len() > MOST { " or more" } else { "" };
     Some(format!(
-        "it has {has} bytes, and {vessels} vessels and {movements} movements are {length}"
+        "it has {} bytes{more}, and {vessels} vessels and {movements} movements are {length}",
+        bytes.len()
     ))
 }
 
 /// The first name that is ill-formed or that an earlier vessel has.
 fn name(bytes: &[u8]) -> Option<String> {
-    let vessels = (number(bytes, VESSEL_COUNT, 2)? as usize).min(VESSELS);
+    let vessels = number(bytes, VESSEL_COUNT, 2)? as usize;
     let names = bytes.get(HEADER..HEADER + NAME_BYTES * vessels)?;
     let names: Vec<&[u8]> = names.chunks_exact(NAME_BYTES).collect();
     (0..vessels).find_map(|vessel| {
@@ -164,7 +181,7 @@ fn ill_formed(name: &[u8]) -> Option<String> {
 /// The first movement of a vessel that is not there.
 fn movement(bytes: &[u8]) -> Option<String> {
     let vessels = number(bytes, VESSEL_COUNT, 2)?;
-    let movements = (number(bytes, MOVEMENT_COUNT, 4)? as usize).min(MOVEMENTS);
+    let movements = number(bytes, MOVEMENT_COUNT, 4)? as usize;
     let first = HEADER + NAME_BYTES * vessels as usize;
     (0..movements).find_map(|index| {
         let at = first + MOVEMENT_BYTES * index;

@@ -1,6 +1,8 @@
 //! Minutes as people write them: a number, or a weekday and a time where it is known when minute 0 was.
 //! A sheet does not say when that was, so it is never guessed.
 
+use crate::words::{number, shown};
+
 const DAYS: [&str; 7] = ["Mon", "Tue", "Wed", "Thu", "Fri", "Sat", "Sun"];
 const HOUR: u64 = 60;
 const DAY: u64 = 24 * HOUR;
@@ -28,7 +30,8 @@ impl Start {
         match (weekday(day), time_of_day(time)) {
             (Some(day), Some(time)) => Ok(Start { day, time }),
             _ => Err(format!(
-                "{word}: a start is a weekday, as Mon, or one with a time, as Mon-05:30"
+                "{}: a start is a weekday, as Mon, or one with a time, as Mon-05:30",
+                shown(word)
             )),
         }
     }
@@ -47,13 +50,14 @@ impl Start {
             let week: u32 = number(week).ok()?;
             Some((weekday(day)?, u64::from(week), time_of_day(time)?))
         };
+        let shown = shown(word);
         let (day, week, time) = apart().ok_or_else(|| {
-            format!("{word}: a minute is a number, or a weekday and a time, as Tue-06:00")
+            format!("{shown}: a minute is a number, or a weekday and a time, as Tue-06:00")
         })?;
         let days = 7 * week + (7 + day - self.day) % 7;
         let minute = (days * DAY + time).checked_sub(self.time);
-        let minute = minute.ok_or_else(|| format!("{word} is before minute 0"))?;
-        u32::try_from(minute).map_err(|_| format!("{word} is after minute {}", u32::MAX))
+        let minute = minute.ok_or_else(|| format!("{shown} is before minute 0"))?;
+        u32::try_from(minute).map_err(|_| format!("{shown} is after minute {}", u32::MAX))
     }
 
     fn word(&self, minute: u32) -> String {
@@ -90,32 +94,22 @@ impl Clock {
 
     /// Reads a minute: a number, or a weekday and a time.
     pub fn read(&self, word: &str) -> Result<u32, String> {
-        if word.contains(':') && !is_moment(word) {
-            return Err(format!("{word}: a time has its weekday, as Tue-06:00"));
-        }
-        match self.start {
-            _ if word.starts_with(|c: char| c.is_ascii_digit()) => number(word),
-            Some(start) => start.minute(word),
-            None if is_moment(word) => Err(format!(
-                "{word}: it is not said when minute 0 was, as --start Mon, or start Mon in a text"
-            )),
-            None => Err(format!("{word}: a minute is a number")),
-        }
+        let why = match self.start {
+            _ if word.contains(':') && !is_moment(word) => "a time has its weekday, as Tue-06:00",
+            _ if word.starts_with(|c: char| c.is_ascii_digit()) => return number(word),
+            Some(start) => return start.minute(word),
+            None if is_moment(word) => {
+                "it is not said when minute 0 was, as --start Mon, or start Mon in a text"
+            }
+            None => "a minute is a number",
+        };
+        Err(format!("{}: {why}", shown(word)))
     }
 }
 
 /// Whether a word starts with a weekday.
 pub fn is_moment(word: &str) -> bool {
     word.get(..3).is_some_and(|day| weekday(day).is_some())
-}
-
-/// A decimal number of 32 bits.
-pub fn number(word: &str) -> Result<u32, String> {
-    if word.is_empty() || !word.bytes().all(|b| b.is_ascii_digit()) {
-        return Err(format!("{word}: not a whole number in digits alone"));
-    }
-    let over = |_| format!("{word}: a number is at most {}", u32::MAX);
-    word.parse().map_err(over)
 }
 
 fn weekday(word: &str) -> Option<u64> {
@@ -178,6 +172,5 @@ mod tests {
         for word in ["06:00", "tuesday:06:00:00x"] {
             assert!(clock("Mon").read(word).is_err(), "{word}");
         }
-        assert!(number("4294967296").is_err());
     }
 }

@@ -1,7 +1,8 @@
 //! The command line, taken apart.
 
-use crate::clock::{number, Clock, Start};
+use crate::clock::{Clock, Start};
 use crate::sheet::Cut;
+use crate::words::{number, shown};
 use std::ffi::OsString;
 use std::path::Path;
 
@@ -55,6 +56,11 @@ impl Verb {
 }
 
 impl Command {
+    /// The file as messages show it.
+    pub fn file_shown(&self) -> String {
+        shown(&self.file.to_string_lossy())
+    }
+
     /// The name of the sheet, without its folders.
     pub fn title(&self) -> String {
         let name = Path::new(&self.file).file_name().unwrap_or(&self.file);
@@ -78,20 +84,18 @@ struct Line {
 /// Takes a command line apart. None: the usage is asked for.
 pub fn parse(arguments: &[OsString]) -> Result<Option<Command>, String> {
     let line = Line::read(arguments)?;
-    let Some((first, rest)) = line.words.split_first() else {
-        return match arguments.iter().all(|a| a == "--help") {
-            true => Ok(None),
-            false => Err("no sheet is named".to_string()),
-        };
-    };
-    if line.help || first == "help" || first == "-h" {
+    if line.help || arguments.is_empty() {
         return Ok(None);
     }
+    let (first, rest) = line.words.split_first().ok_or("no sheet is named")?;
     let word = first.to_string_lossy();
+    if ["help", "-h"].contains(&word.as_ref()) {
+        return Ok(None);
+    }
     let named = verb(&word, rest, line.csv)?;
     let bare = named.is_none();
     if bare && !rest.is_empty() {
-        return Err(format!("{word}: no such command"));
+        return Err(format!("{}: no such command", shown(&word)));
     }
     let (verb, file) = named.unwrap_or((Verb::List, first.clone()));
     if line.csv && !matches!(verb, Verb::Whole { .. }) {
@@ -108,40 +112,39 @@ pub fn parse(arguments: &[OsString]) -> Result<Option<Command>, String> {
 
 /// The verb of a command's word and its file; none for a word that is no command.
 fn verb(word: &str, rest: &[OsString], csv: bool) -> Result<Option<(Verb, OsString)>, String> {
-    let kinds = [
-        "list", "whose", "where", "whole", "check", "text", "sheet", "page",
-    ];
-    if !kinds.contains(&word) {
-        return Ok(None);
-    }
-    let kind = if word == "sheet" { "text" } else { "sheet" };
-    let (file, rest) = rest
-        .split_first()
-        .ok_or_else(|| format!("{word}: no {kind} is named"))?;
+    let (file, rest) = match rest.split_first() {
+        Some((file, rest)) => (Some(file), rest),
+        None => (None, rest),
+    };
     let mut words = rest.iter().map(|w| w.to_string_lossy().into_owned());
     let verb = match word {
+        "list" => Verb::List,
         "whose" => Verb::Whose(words.by_ref().collect()),
-        "where" => {
-            let origin = words.next().ok_or("where: no origin is named")?;
-            let span = match (words.next(), words.next()) {
-                (Some(from), Some(to)) => Some((from, to)),
-                (None, _) => None,
-                (Some(_), None) => {
-                    return Err("where: a span has two ends, FROM and TO".to_string())
-                }
-            };
-            Verb::Where(origin, span)
-        }
+        "where" => where_of(&mut words)?,
         "whole" => Verb::Whole { csv },
         "check" => Verb::Check,
         "text" => Verb::Text,
         "sheet" => Verb::Sheet,
         "page" => Verb::Page,
-        _ => Verb::List,
+        _ => return Ok(None),
     };
+    let kind = if word == "sheet" { "text" } else { "sheet" };
+    let file = file.ok_or_else(|| format!("{word}: no {kind} is named"))?;
     match words.next() {
-        Some(word) => Err(format!("{word}: one word too many")),
+        Some(word) => Err(format!("{}: one word too many", shown(&word))),
         None => Ok(Some((verb, file.clone()))),
+    }
+}
+
+/// An origin, and a span of two words or none.
+fn where_of(words: &mut impl Iterator<Item = String>) -> Result<Verb, String> {
+    let origin = words
+        .next()
+        .ok_or("where: a sheet and an origin are to be named")?;
+    match (words.next(), words.next()) {
+        (Some(from), Some(to)) => Ok(Verb::Where(origin, Some((from, to)))),
+        (None, _) => Ok(Verb::Where(origin, None)),
+        (Some(_), None) => Err("where: a span has two ends, FROM and TO".to_string()),
     }
 }
 
@@ -181,13 +184,16 @@ impl Line {
             "until" | "movements" | "start" => {
                 let value = given.or_else(next);
                 let value = value.ok_or_else(|| format!("--{name} has no value"))?;
-                match name {
-                    "until" => self.cut.until = Some(value),
-                    "movements" => self.cut.movements = Some(number(&value)?),
-                    _ => self.clock.start = Some(Start::read(&value)?),
+                let before = match name {
+                    "until" => self.cut.until.replace(value).is_some(),
+                    "movements" => self.cut.movements.replace(number(&value)?).is_some(),
+                    _ => self.clock.start.replace(Start::read(&value)?).is_some(),
+                };
+                if before {
+                    return Err(format!("--{name} stands twice"));
                 }
             }
-            _ => return Err(format!("--{name}: no such option")),
+            _ => return Err(format!("--{}: no such option", shown(name))),
         }
         Ok(())
     }

@@ -1,22 +1,23 @@
 //! `lots`: the tool over the proved library. It reads a sheet, has it run, and shows what came of it to people,
 //! spreadsheets and browsers. The weights are the library's; nothing here splits a lot.
 //!
-//! Data flows one way: bytes → [`sheet`] → [`ledger`] → [`reports`], [`text`], [`check`] or [`page`]; [`tool`] takes
-//! a [`command`] along it. [`clock`] has the minutes, [`vessels`] the names.
+//! Data flows one way: bytes → `sheet` → `ledger` → `reports`, `text`, `check` or `page`; `tool` takes a `command`
+//! along it. `clock` has the minutes, `vessels` the names, `words` what messages show of what was given.
 
 #![forbid(unsafe_code)]
 
-pub mod check;
+mod check;
 pub mod clock;
-pub mod command;
-pub mod ledger;
-pub mod listing;
-pub mod page;
-pub mod reports;
-pub mod sheet;
-pub mod text;
-pub mod tool;
-pub mod vessels;
+mod command;
+mod ledger;
+mod listing;
+mod page;
+mod reports;
+mod sheet;
+mod text;
+mod tool;
+mod vessels;
+mod words;
 
 use std::ffi::OsString;
 use std::io::Read;

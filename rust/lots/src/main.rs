@@ -1,7 +1,9 @@
 //! `lots`: whose flour is in every vessel, and since when.
 
 use std::ffi::OsString;
-use std::io::{stderr, stdin, stdout, ErrorKind, IsTerminal, Write};
+use std::fs::File;
+use std::io::{stderr, stdin, stdout, Error, ErrorKind, IsTerminal, Write};
+use std::os::fd::AsFd;
 use std::process::ExitCode;
 
 /// The status where a sheet would go to a terminal.
@@ -13,12 +15,15 @@ const UNWRITTEN: u8 = 3;
 fn main() -> ExitCode {
     let arguments: Vec<OsString> = std::env::args_os().skip(1).collect();
     let answer = lots::answer(&arguments, &mut stdin().lock());
-    let mut out = stdout().lock();
-    if answer.sheet && out.is_terminal() {
-        eprintln!("lots: a sheet is no text to show: lots sheet TEXT >SHEET");
+    if answer.sheet && stdout().is_terminal() {
+        let _ = stderr().write_all(answer.err.as_bytes());
+        let _ = writeln!(
+            stderr(),
+            "lots: a sheet is no text to show: lots sheet TEXT >SHEET"
+        );
         return ExitCode::from(WRONG_USE);
     }
-    let written = out.write_all(&answer.out).and_then(|()| out.flush());
+    let written = write(&answer.out);
     let _ = stderr().write_all(answer.err.as_bytes());
     match written {
         // A reader that goes away early, as `head` does, is no fault.
@@ -28,4 +33,9 @@ fn main() -> ExitCode {
         }
         _ => ExitCode::from(answer.status),
     }
+}
+
+/// Writes to standard output itself: `Stdout` takes one that cannot be written for one that takes all.
+fn write(bytes: &[u8]) -> Result<(), Error> {
+    File::from(stdout().as_fd().try_clone_to_owned()?).write_all(bytes)
 }

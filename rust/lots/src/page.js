@@ -10,16 +10,18 @@ const [section, form, origin, from, to, said] = ["recall", "ask", "origin", "fro
 // A minute is read as clock.rs reads it: each of these gives a number, or a text that says why there is none.
 
 function minuteOf(word) {
+  const moment = DAYS.includes(word.slice(0, 3).toLowerCase());
+  if (word.includes(":") && !moment) return `${word}: a time has its weekday, as Tue-06:00`;
   if (/^[0-9]/.test(word)) return numberOf(word);
   if (DATA.start) return momentOf(word);
-  if (DAYS.includes(word.slice(0, 3).toLowerCase())) {
+  if (moment) {
     return `${word}: this page does not know when minute 0 was; made with --start Mon, it would`;
   }
   return `${word}: a minute is a number`;
 }
 
 function numberOf(word) {
-  if (!/^[0-9]+$/.test(word)) return `${word}: not a number`;
+  if (!/^[0-9]+$/.test(word)) return `${word}: not a whole number in digits alone`;
   return Number(word) > LARGEST ? `${word}: a number is at most ${LARGEST}` : Number(word);
 }
 

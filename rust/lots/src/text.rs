@@ -13,7 +13,7 @@
 
 mod reader;
 
-pub use reader::{read, LineFault};
+pub use reader::{looks_like, read, LineFault};
 
 use crate::clock::Clock;
 use crate::sheet::{rules, Sheet};
@@ -105,11 +105,4 @@ pub fn movement(sheet: &Sheet, clock: &Clock, m: &Transfer, widths: &Widths) -> 
         "{at:>minute$} {from:name$} -> {to:name$} {:grams$} g{age}",
         m.weight
     )
-}
-
-/// Whether bytes start as a text does: with its rule, behind remarks and empty lines.
-pub fn looks_like(bytes: &[u8]) -> bool {
-    let mut lines = bytes.split(|&b| b == b'\n').map(<[u8]>::trim_ascii);
-    let first = lines.find(|line| !line.is_empty() && !line.starts_with(b"#"));
-    first.is_some_and(|line| line.starts_with(b"rule "))
 }

@@ -9,10 +9,10 @@ use crate::{check, listing, page, reports, text, vessels, Answer};
 use lumchaki::{Refusal, Stop};
 use std::ffi::OsStr;
 use std::fs::File;
-use std::io::Read;
+use std::io::{Error, ErrorKind, Read};
 
-/// No sheet and no text is longer than this.
-const LONGEST: u64 = 16 << 20;
+/// No more of a file is looked at: a sheet is refused far below it, and no text needs it.
+pub const MOST: usize = 16 << 20;
 
 /// Why there is no answer.
 pub enum Fault {
@@ -34,12 +34,23 @@ impl From<Refusal> for Fault {
 
 /// Carries out a command.
 pub fn carry_out(command: &Command, input: &mut dyn Read) -> Result<Answer, Fault> {
-    let given = bytes(&command.file, input).map_err(|why| match command.verb {
-        _ if command.bare => Fault::Use(format!("no such command, and {why}")),
-        Verb::Whose(_) | Verb::Where(..) => Fault::File(format!("{why} (the sheet comes first)")),
-        _ => Fault::File(why),
+    let given = bytes(&command.file, input).map_err(|error| {
+        let why = format!("{}: {error}", command.file_shown());
+        match command.verb {
+            _ if command.bare && error.kind() == ErrorKind::NotFound => {
+                Fault::Use(format!("no such command, and {why}"))
+            }
+            Verb::Whose(_) | Verb::Where(..) => {
+                Fault::File(format!("{why} (the sheet comes first)"))
+            }
+            _ => Fault::File(why),
+        }
     })?;
     let mut text = match (&command.verb, Sheet::read(&given)) {
+        (Verb::Sheet, _) if given.len() > MOST => {
+            let file = command.file_shown();
+            return Err(Fault::File(format!("{file}: longer than {MOST} bytes")));
+        }
         (Verb::Sheet, _) => {
             text::read(&given, &command.clock).map_err(|fault| refused_line(command, &fault))?
         }
@@ -52,7 +63,7 @@ pub fn carry_out(command: &Command, input: &mut dyn Read) -> Result<Answer, Faul
     let stop = ledger
         .stop
         .map(|stop| (stop, text.lines[stop.index as usize]));
-    let mut out = shown(command, &ledger, &clock, stop)?;
+    let mut out = answer_to(command, &ledger, &clock, stop)?;
     let (mut status, mut err) = (0, String::new());
     if let Some((stop, line)) = stop {
         status = 1;
@@ -70,7 +81,7 @@ pub fn carry_out(command: &Command, input: &mut dyn Read) -> Result<Answer, Faul
 }
 
 /// What a command shows of a ledger. A stop has its line in the text.
-fn shown(
+fn answer_to(
     command: &Command,
     ledger: &Ledger,
     clock: &Clock,
@@ -102,7 +113,7 @@ fn stood_before(stop: &Stop) -> String {
 /// `lots text` would print.
 fn stopped(command: &Command, ledger: &Ledger, clock: &Clock, stop: &Stop, line: usize) -> String {
     let Stop { index, refusal } = stop;
-    let file = command.file.display();
+    let file = command.file_shown();
     let (_, why) = check::because(ledger, clock, stop);
     let place = match command.verb {
         Verb::Sheet => format!("line {line}: stopped at movement {index}"),
@@ -111,19 +122,13 @@ fn stopped(command: &Command, ledger: &Ledger, clock: &Clock, stop: &Stop, line:
     format!("lots: {file}: {place}: {refusal}: {why}\n")
 }
 
-/// The bytes of a file or of standard input.
-fn bytes(file: &OsStr, input: &mut dyn Read) -> Result<Vec<u8>, String> {
-    let failed = |why: String| format!("{}: {why}", file.display());
-    let mut bytes = Vec::new();
-    let read = if file == "-" {
-        input.take(LONGEST + 1).read_to_end(&mut bytes)
-    } else {
-        File::open(file).and_then(|file| file.take(LONGEST + 1).read_to_end(&mut bytes))
+/// The bytes of a file or of standard input, at most one more than are looked at.
+fn bytes(file: &OsStr, input: &mut dyn Read) -> Result<Vec<u8>, Error> {
+    let (most, mut bytes) = (MOST as u64 + 1, Vec::new());
+    match file == "-" {
+        true => input.take(most).read_to_end(&mut bytes)?,
+        false => File::open(file)?.take(most).read_to_end(&mut bytes)?,
     };
-    read.map_err(|error| failed(error.to_string()))?;
-    if bytes.len() as u64 > LONGEST {
-        return Err(failed(format!("it is longer than {LONGEST} bytes")));
-    }
     Ok(bytes)
 }
 
@@ -169,7 +174,7 @@ fn vessel(ledger: &Ledger, word: &str) -> Result<u32, Fault> {
 /// The answer to a sheet that cannot be read: the listing has its number, the check says where.
 fn refused(command: &Command, given: &[u8], refusal: Refusal) -> Result<Answer, Fault> {
     let place = check::place(given, refusal);
-    let file = command.file.display();
+    let file = command.file_shown();
     let (out, err) = match command.verb {
         Verb::Check => {
             let out = format!("not fit: {refusal}\n  {place}\n");
@@ -191,7 +196,7 @@ fn refused(command: &Command, given: &[u8], refusal: Refusal) -> Result<Answer, 
 
 /// A text that makes no sheet.
 fn refused_line(command: &Command, fault: &LineFault) -> Fault {
-    let (file, line, why) = (command.file.display(), fault.line, &fault.why);
+    let (file, line, why) = (command.file_shown(), fault.line, &fault.why);
     Fault::Refused(match fault.refusal {
         Some(refusal) => format!("{file}: line {line}: {refusal}: {why}"),
         None => format!("{file}: line {line}: {why}"),

@@ -1,7 +1,12 @@
 //! Vessels by name or number.
 
+use crate::words::shown;
+
 /// The most names that are offered for one that is unknown.
 const OFFERED: usize = 3;
+
+/// No name is near to a word that is longer.
+const NEAR: usize = 32;
 
 /// The vessel of a name, or else of a number.
 pub fn find(names: &[String], word: &str) -> Option<u32> {
@@ -15,15 +20,18 @@ pub fn find(names: &[String], word: &str) -> Option<u32> {
 
 /// What to say of a vessel that is not there.
 pub fn unknown(names: &[String], word: &str) -> String {
-    let near = nearest(names, word);
+    let (near, word) = (nearest(names, word), shown(word));
     match near.is_empty() {
-        true => format!("{word} is none, and no vessel has a name"),
+        true => format!("{word} is none"),
         false => format!("{word} is none; the nearest: {}", near.join(" ")),
     }
 }
 
 /// The names that are nearest to a word: those at the least distance, or hardly more.
 fn nearest<'n>(names: &'n [String], word: &str) -> Vec<&'n str> {
+    if word.len() > NEAR {
+        return Vec::new();
+    }
     let word = word.to_ascii_lowercase();
     let of = |name: &'n String| (distance(&name.to_ascii_lowercase(), &word), name.as_str());
     let mut near: Vec<(usize, &str)> = names.iter().map(of).collect();
@@ -84,5 +92,6 @@ mod tests {
         assert_eq!(nearest(&names, "silo2"), ["SILO"]);
         assert_eq!(distance("kitten", "sitting"), 3);
         assert_eq!(distance("", "abc"), 3);
+        assert!(nearest(&names, &"A".repeat(5_000_000)).is_empty());
     }
 }

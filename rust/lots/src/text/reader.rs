@@ -1,9 +1,10 @@
 //! Reading a text: line by line, and a fault names its line.
 
 use super::{Text, MOVEMENT};
-use crate::clock::{is_moment, number, Clock, Start};
+use crate::clock::{is_moment, Clock, Start};
 use crate::sheet::{rules, Sheet, RULES};
 use crate::vessels::unknown;
+use crate::words::{at_most, number, shown};
 use lumchaki::{Refusal, Transfer, MOVEMENTS, NAME_BYTES, VESSELS};
 
 /// What is wrong in a line.
@@ -17,20 +18,22 @@ pub struct LineFault {
     pub why: String,
 }
 
+/// Whether bytes start as a text does: with its rule.
+pub fn looks_like(bytes: &[u8]) -> bool {
+    let text = String::from_utf8_lossy(bytes);
+    let first = statements(&text).next();
+    first.is_some_and(|(_, words)| words[0] == "rule")
+}
+
 /// Reads a text. Minutes go by its own line `start`, or else by the clock that is given.
 pub fn read(bytes: &[u8], clock: &Clock) -> Result<Text, LineFault> {
-    let bytes = bytes.strip_prefix(b"\xef\xbb\xbf").unwrap_or(bytes);
     let mut reader = Reader {
         clock: *clock,
         ..Reader::default()
     };
     let mut last = 1;
-    for (line, bytes) in (1..).zip(bytes.split(|&b| b == b'\n')) {
-        let text = String::from_utf8_lossy(bytes);
-        let words: Vec<&str> = text.split_ascii_whitespace().collect();
-        if words.is_empty() || words[0].starts_with('#') {
-            continue;
-        }
+    let text = String::from_utf8_lossy(bytes).replace("\r\n", "\n");
+    for (line, words) in statements(&text) {
         last = line;
         let stated = reader.statement(line, &words);
         stated.map_err(|(refusal, why)| LineFault { line, refusal, why })?;
@@ -40,6 +43,16 @@ pub fn read(bytes: &[u8], clock: &Clock) -> Result<Text, LineFault> {
         line: last,
         refusal,
         why,
+    })
+}
+
+/// The lines that say something, with their numbers from 1, in words. A carriage return ends a line too.
+fn statements(text: &str) -> impl Iterator<Item = (usize, Vec<&str>)> {
+    let text = text.strip_prefix('\u{feff}').unwrap_or(text);
+    let lines = (1..).zip(text.split(['\n', '\r']));
+    let lines = lines.map(|(line, text)| (line, text.split_ascii_whitespace().collect()));
+    lines.filter(|(_, words): &(usize, Vec<&str>)| {
+        words.first().is_some_and(|w| !w.starts_with('#'))
     })
 }
 
@@ -92,7 +105,7 @@ impl Reader {
             return Err(wrong("the rule stands twice"));
         }
         let known = || format!("the rules are {}", rules());
-        let rule = number(word).map_err(|why| wrong(format!("{why}; {}", known())))?;
+        let rule = at_most(word).map_err(|why| wrong(format!("{why}; {}", known())))?;
         if rule as usize >= RULES.len() {
             return Err(refused(Refusal::RuleUnknown, known()));
         }
@@ -122,7 +135,7 @@ impl Reader {
         let visible = name.bytes().all(|b| (b'!'..=b'~').contains(&b));
         if !visible || name.len() > NAME_BYTES {
             let why = "a name is 1 to 8 letters, digits and signs of ASCII";
-            return Err(refused(Refusal::Name, format!("{name}: {why}")));
+            return Err(refused(Refusal::Name, format!("{}: {why}", shown(name))));
         }
         if self.names.iter().any(|n| n == name) {
             return Err(refused(
@@ -149,13 +162,8 @@ impl Reader {
             ));
         }
         let of = |what: &'static str| move |why| wrong(format!("{what} {why}"));
-        let age = number(age).map_err(of("age"))?;
-        let over = || {
-            refused(
-                Refusal::AgeOver,
-                format!("age {age}: it is at most 65535 minutes"),
-            )
-        };
+        let over = format!("age {}: it is at most {} minutes", shown(age), u16::MAX);
+        let age = at_most(age).map_err(of("age"))?;
         let vessel = |name: &str| {
             let found = self.names.iter().position(|n| n == name);
             found.ok_or_else(|| refused(Refusal::NoVessel, unknown(&self.names, name)))
@@ -165,7 +173,7 @@ impl Reader {
             destination: vessel(to)? as u32,
             minute: self.clock.read(minute).map_err(wrong)?,
             weight: number(grams).map_err(of("weight"))?,
-            age: u16::try_from(age).map_err(|_| over())?,
+            age: u16::try_from(age).map_err(|_| refused(Refusal::AgeOver, over))?,
         };
         self.movements.push(movement);
         self.lines.push(line);

@@ -2,7 +2,6 @@
 
 use crate::ask;
 use compare::{damage, sheet, Random};
-use std::collections::BTreeMap;
 
 const COMMANDS: [&str; 9] = [
     "whose -",
@@ -18,15 +17,13 @@ const COMMANDS: [&str; 9] = [
 
 /// Asks everything of these bytes. The status of `check`.
 fn ask_all(bytes: &[u8]) -> u8 {
-    let mut status = BTreeMap::new();
     for command in COMMANDS {
         let answer = ask(command, bytes);
         assert!(answer.status <= 1, "{command}: {}", answer.err);
         assert_eq!(answer.status == 0, answer.err.is_empty(), "{command}");
         assert!(answer.status == 1 || !answer.out.is_empty(), "{command}");
-        status.insert(command, answer.status);
     }
-    status["check -"]
+    ask("check -", bytes).status
 }
 
 #[test]
@@ -104,7 +101,8 @@ fn damaged_texts() {
             let (_, line) = answer.err.split_once(": line ").expect("a line is named");
             let (line, _) = line.split_once(':').expect("a line is named");
             let line: usize = line.parse().expect("a number");
-            assert!((1..=text.split(|&b| b == b'\n').count()).contains(&line));
+            let lines = text.split(|&b| b == b'\n' || b == b'\r').count();
+            assert!((1..=lines).contains(&line));
             refused += 1;
         } else {
             ask_all(&answer.out);

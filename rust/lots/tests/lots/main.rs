@@ -6,6 +6,7 @@ mod golden;
 mod matrix;
 mod numbers;
 mod page;
+mod program;
 mod questions;
 mod readme;
 mod refusals;
@@ -45,4 +46,14 @@ fn path(name: &str) -> PathBuf {
 /// A file of the repository.
 fn file(name: &str) -> Vec<u8> {
     std::fs::read(path(name)).unwrap_or_else(|error| panic!("{name}: {error}"))
+}
+
+/// The names of a sheet without their zeros.
+fn names_of(sheet: &second::Sheet) -> Vec<String> {
+    let name = |name: &[u8; 8]| {
+        String::from_utf8_lossy(name)
+            .trim_end_matches('\0')
+            .to_string()
+    };
+    sheet.names.iter().map(name).collect()
 }

@@ -1,6 +1,6 @@
 //! The numbers shown are those of the second implementation, read back from what is shown.
 
-use crate::{ask, ask_words, matrix, page};
+use crate::{ask, ask_words, matrix, names_of, page};
 use calls::{Piece, PLACES, TOP};
 use compare::{aged_day, near, sheet, working_day, Random};
 use second::{Book, Sheet};
@@ -22,14 +22,9 @@ impl Known {
         let Ok(outcome) = sheet.run(PLACES) else {
             panic!("a sheet that can be read is run");
         };
-        let name = |name: &[u8; 8]| {
-            String::from_utf8_lossy(name)
-                .trim_end_matches('\0')
-                .to_string()
-        };
         Known {
             bytes: sheet.bytes(),
-            names: sheet.names.iter().map(name).collect(),
+            names: names_of(sheet),
             pieces: outcome.book.pieces(),
             book: outcome.book,
         }

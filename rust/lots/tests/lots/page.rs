@@ -1,10 +1,10 @@
 //! The page, read back: its data, its table, its bars. What the script does with the data is tried in a browser.
 
-use crate::{ask, text};
+use crate::{ask, names_of, text};
 use calls::{Piece, NAME_BYTES};
 use compare::{names, Random};
 use second::Sheet;
-use std::collections::BTreeMap;
+use std::collections::{BTreeMap, BTreeSet};
 
 /// The text of HTML without tags.
 pub fn plain(html: &str) -> String {
@@ -82,6 +82,17 @@ pub fn page(page: &str, names: &[String], pieces: &[Piece]) {
         }
     }
     assert_eq!(shown, expected(names, pieces));
+    // Each origin in the legend looks different.
+    let legend = page
+        .split("<ul class=\"legend\">")
+        .nth(1)
+        .and_then(|rest| rest.split("</ul>").next());
+    let looks = legend
+        .expect("a legend")
+        .split("<i class=\"swatch ")
+        .skip(1);
+    let looks: Vec<&str> = looks.filter_map(|rest| rest.split('"').next()).collect();
+    assert_eq!(looks.iter().collect::<BTreeSet<_>>().len(), looks.len());
     // A card with a bar for each vessel.
     assert_eq!(page.matches("<div class=\"card\" ").count(), names.len());
     assert_eq!(page.matches("<div class=\"bar\">").count(), names.len());
@@ -140,12 +151,7 @@ fn names_come_out_right() {
     let Ok(outcome) = sheet.run(calls::PLACES) else {
         panic!("the sheet runs");
     };
-    let name = |n: &[u8; 8]| {
-        String::from_utf8_lossy(n)
-            .trim_end_matches('\0')
-            .to_string()
-    };
-    let names: Vec<String> = sheet.names.iter().map(name).collect();
+    let names = names_of(&sheet);
     page(
         &String::from_utf8(shown.out).expect("text"),
         &names,

@@ -5,7 +5,7 @@ use lots::USAGE;
 
 #[test]
 fn usage() {
-    for line in ["--help", "help", "-h", "whose --help"] {
+    for line in ["--help", "help", "-h", "whose --help", "--help --csv"] {
         assert_eq!(text(line, b""), USAGE, "{line}");
     }
     assert_eq!(text("", b""), USAGE);
@@ -17,7 +17,7 @@ fn wrong_use() {
     let wrong = [
         ("whose", "whose: no sheet is named"),
         ("sheet", "sheet: no text is named"),
-        ("where -", "where: no origin is named"),
+        ("where -", "where: a sheet and an origin are to be named"),
         (
             "where - MILLER-B 5",
             "where: a span has two ends, FROM and TO",
@@ -38,6 +38,8 @@ fn wrong_use() {
         ("whose - --movements -1", "-1: not a whole number"),
         ("whose - --start Someday", "Someday: a start is a weekday"),
         ("--csv", "no sheet is named"),
+        ("whose - --until 5 --until=9", "--until stands twice"),
+        ("check - \u{1b}[2J", "\\u{1b}[2J: one word too many"),
         ("whos", "no such command, and whos: "),
     ];
     for (line, why) in wrong {
@@ -121,4 +123,35 @@ fn strange_names() {
         csv.starts_with("vessel,--csv,-,->,#,rule,g,age,0,\"\"\"a,b\"\"\",5,</script,--\n"),
         "{csv}"
     );
+}
+
+/// What was born where, and which vessel gave more than it had received: not one that gets flour back later.
+#[test]
+fn births_in_check() {
+    let moves = [
+        "5 A -> B 10 g\n",
+        "6 B -> A 3 g\n",
+        "7 A -> B 5 g\n",
+        "8 B -> C 13 g\n",
+    ];
+    let born = |count: usize| {
+        let text = format!(
+            "rule 0\nvessel A\nvessel B\nvessel C\n{}",
+            moves[..count].concat()
+        );
+        let check = crate::text("check -", &ask("sheet -", text.as_bytes()).out);
+        let lines = check
+            .lines()
+            .filter_map(|line| line.strip_prefix("  born       "));
+        lines.map(str::to_string).collect::<Vec<_>>()
+    };
+    assert_eq!(born(0), [""; 0]);
+    assert_eq!(born(1), ["A 10 g"]);
+    assert_eq!(born(2), ["A 10 g"]);
+    assert_eq!(born(3), ["A 12 g, more than it had received"]);
+    let all = [
+        "A 12 g, more than it had received",
+        "B 1 g, more than it had received",
+    ];
+    assert_eq!(born(4), all);
 }

@@ -27,6 +27,8 @@ fn roughened(random: &mut Random, text: &str) -> String {
     let end = random.one_of(&[
         "\n",
         "\r\n",
+        "\r",
+        "\r# a remark\r",
         " \n",
         "\n\n",
         "\n# a remark, \u{fc}ber Mehl\n",

@@ -147,6 +147,31 @@ fn faults_of_a_text() {
             "start stands once, before the movements",
         ),
         (
+            format!("{start}start Mon\nstart Mon\n"),
+            5,
+            "start stands once, before the movements",
+        ),
+        (
+            format!("{start}5 MILL -> SILO 1 g age 99999999999\n"),
+            4,
+            "filler (18): age 99999999999",
+        ),
+        (
+            "rule 4294967296\n".to_string(),
+            1,
+            "rule unknown (2): the rules are",
+        ),
+        (
+            "rule 0\nvessel \u{1b}[2J\n".to_string(),
+            2,
+            "name (17): \\u{1b}[2J: a name is",
+        ),
+        (
+            format!("{start}5 {} -> SILO 1 g\n", "x".repeat(1 << 20)),
+            4,
+            "no vessel (5): xxxxxxxxxxxxxxxxxxxxxxxxxxxxxxxxxxxxxxxx... is none\n",
+        ),
+        (
             format!("{start}5 MILL -> SILO 1 g age 65536\n"),
             4,
             "filler (18): age 65536",
