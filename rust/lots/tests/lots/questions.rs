@@ -14,20 +14,15 @@ fn usage() {
 #[test]
 fn wrong_use() {
     let sheet = file("examples/two-paths.sheet");
+    #[rustfmt::skip] // a table
     let wrong = [
         ("whose", "whose: no sheet is named"),
         ("sheet", "sheet: no text is named"),
         ("where -", "where: a sheet and an origin are to be named"),
-        (
-            "where - MILLER-B 5",
-            "where: a span has two ends, FROM and TO",
-        ),
+        ("where - MILLER-B 5", "where: a span has two ends, FROM and TO"),
         ("where - MILLER-B 5 6 7", "7: one word too many"),
         ("where - MILLER-B now 6", "now: a minute is a number"),
-        (
-            "where - MILLER-B Tue-06:00 Tue-12:00",
-            "Tue-06:00: it is not said when minute 0 was",
-        ),
+        ("where - MILLER-B Tue-06:00 Tue-12:00", "Tue-06:00: it is not said when minute 0 was"),
         ("check - -", "-: one word too many"),
         ("whos -", "whos: no such command"),
         ("whose - --csv", "--csv goes with whole alone"),

@@ -40,129 +40,43 @@ fn named(name: &[u8; 8]) -> Vec<u8> {
 }
 
 /// Sheets that are refused when they are read, with number and place.
+#[rustfmt::skip] // a table
 fn unreadable() -> Vec<(Vec<u8>, Refusal, &'static str)> {
     let mut longer = good().bytes();
     longer.push(0);
     vec![
         (vec![], Refusal::NoSheet, "it is empty"),
-        (
-            good().bytes()[..23].to_vec(),
-            Refusal::NoSheet,
-            "it has 23 bytes",
-        ),
-        (
-            put(3, 1, 0x1b),
-            Refusal::NoSheet,
-            "field mark, bytes 0 to 3: \"PRO\\x1b\", not \"PROV\"",
-        ),
-        (
-            crate::file("examples/two-paths.txt"),
-            Refusal::NoSheet,
-            "it looks like a text: lots sheet TEXT >SHEET",
-        ),
-        (
-            put(4, 2, 4),
-            Refusal::RuleUnknown,
-            "field rule, bytes 4 to 5: 4, not 0 to 3",
-        ),
-        (
-            put(6, 2, 0),
-            Refusal::VesselCount,
-            "field count of vessels, bytes 6 to 7: 0, not 1 to 64",
-        ),
-        (
-            put(6, 2, 65),
-            Refusal::VesselCount,
-            "bytes 6 to 7: 65, not 1 to 64",
-        ),
-        (
-            put(8, 4, 4097),
-            Refusal::Movements,
-            "field count of movements, bytes 8 to 11: 4097, not 0 to 4096",
-        ),
-        (
-            put(12, 4, 25),
-            Refusal::Layout,
-            "field offset of the names, bytes 12 to 15: 25, not 24",
-        ),
-        (
-            put(16, 4, 47),
-            Refusal::Layout,
-            "field offset of the movements, bytes 16 to 19: 47, not 48",
-        ),
-        (
-            put(20, 4, TOP),
-            Refusal::Layout,
-            "field length, bytes 20 to 23: 4294967295, not 84",
-        ),
-        (
-            put(8, 4, 2),
-            Refusal::Layout,
-            "field length, bytes 20 to 23: 84, not 72",
-        ),
-        (
-            longer,
-            Refusal::Layout,
-            "it has 85 bytes, and 3 vessels and 3 movements are 84",
-        ),
-        (
-            named(&[0; 8]),
-            Refusal::Name,
-            "vessel 2, its name, bytes 40 to 47: \"\\x00",
-        ),
-        (
-            named(b"A B\0\0\0\0\0"),
-            Refusal::Name,
-            "20 hexadecimal at 1 is no visible character",
-        ),
-        (
-            named(b"A\0B\0\0\0\0\0"),
-            Refusal::Name,
-            "behind its end there is 42 hexadecimal",
-        ),
-        (
-            named(b"MILL\0\0\0\0"),
-            Refusal::Name,
-            "the same as vessel 0's",
-        ),
-        (
-            put(48, 1, 3),
-            Refusal::NoVessel,
-            "movement 0, its source, byte 48: 3, and the vessels are 3",
-        ),
-        (
-            put(73, 1, 255),
-            Refusal::NoVessel,
-            "movement 2, its destination, byte 73: 255",
-        ),
+        (good().bytes()[..23].to_vec(), Refusal::NoSheet, "it has 23 bytes"),
+        (put(3, 1, 0x1b), Refusal::NoSheet, "field mark, bytes 0 to 3: \"PRO\\x1b\", not \"PROV\""),
+        (crate::file("examples/two-paths.txt"), Refusal::NoSheet, "it looks like a text: lots sheet TEXT >SHEET"),
+        (put(4, 2, 4), Refusal::RuleUnknown, "field rule, bytes 4 to 5: 4, not 0 to 3"),
+        (put(6, 2, 0), Refusal::VesselCount, "field count of vessels, bytes 6 to 7: 0, not 1 to 64"),
+        (put(6, 2, 65), Refusal::VesselCount, "bytes 6 to 7: 65, not 1 to 64"),
+        (put(8, 4, 4097), Refusal::Movements, "field count of movements, bytes 8 to 11: 4097, not 0 to 4096"),
+        (put(12, 4, 25), Refusal::Layout, "field offset of the names, bytes 12 to 15: 25, not 24"),
+        (put(16, 4, 47), Refusal::Layout, "field offset of the movements, bytes 16 to 19: 47, not 48"),
+        (put(20, 4, TOP), Refusal::Layout, "field length, bytes 20 to 23: 4294967295, not 84"),
+        (put(8, 4, 2), Refusal::Layout, "field length, bytes 20 to 23: 84, not 72"),
+        (longer, Refusal::Layout, "it has 85 bytes, and 3 vessels and 3 movements are 84"),
+        (named(&[0; 8]), Refusal::Name, "vessel 2, its name, bytes 40 to 47: \"\\x00"),
+        (named(b"A B\0\0\0\0\0"), Refusal::Name, "20 hexadecimal at 1 is no visible character"),
+        (named(b"A\0B\0\0\0\0\0"), Refusal::Name, "behind its end there is 42 hexadecimal"),
+        (named(b"MILL\0\0\0\0"), Refusal::Name, "the same as vessel 0's"),
+        (put(48, 1, 3), Refusal::NoVessel, "movement 0, its source, byte 48: 3, and the vessels are 3"),
+        (put(73, 1, 255), Refusal::NoVessel, "movement 2, its destination, byte 73: 255"),
     ]
 }
 
 /// Sheets that stop at their last movement, with number and reason.
+#[rustfmt::skip] // a table
 fn stopping() -> Vec<(Vec<u8>, Refusal, &'static str)> {
     let with = |numbers| moved(Transfer::new(numbers));
     vec![
-        (
-            with([1, 1, 9, 1]),
-            Refusal::SameVessel,
-            "SILO is source and destination",
-        ),
+        (with([1, 1, 9, 1]), Refusal::SameVessel, "SILO is source and destination"),
         (with([1, 2, 9, 0]), Refusal::NoWeight, "its weight is 0"),
-        (
-            with([1, 2, 6, 1]),
-            Refusal::ClockBack,
-            "the minute before it is 7",
-        ),
-        (
-            moved(Transfer::new([1, 2, 9, 1]).aged(10)),
-            Refusal::BeforeTime,
-            "its age, 10, is above its minute, 9; let minute 0 be earlier",
-        ),
-        (
-            with([0, 1, 9, TOP]),
-            Refusal::Overfull,
-            "SILO holds 150 g, and a vessel holds at most 4294967295",
-        ),
+        (with([1, 2, 6, 1]), Refusal::ClockBack, "the minute before it is 7"),
+        (moved(Transfer::new([1, 2, 9, 1]).aged(10)), Refusal::BeforeTime, "its age, 10, is above its minute, 9; let minute 0 be earlier"),
+        (with([0, 1, 9, TOP]), Refusal::Overfull, "SILO holds 150 g, and a vessel holds at most 4294967295"),
     ]
 }
 
