@@ -34,28 +34,13 @@ impl From<Refusal> for Fault {
 
 /// Carries out a command.
 pub fn carry_out(command: &Command, input: &mut dyn Read) -> Result<Answer, Fault> {
-    let given = bytes(&command.file, input).map_err(|error| {
-        let why = format!("{}: {error}", command.file_shown());
-        match command.verb {
-            _ if command.bare && error.kind() == ErrorKind::NotFound => {
-                Fault::Use(format!("no such command, and {why}"))
-            }
-            Verb::Whose(_) | Verb::Where(..) => {
-                Fault::File(format!("{why} (the sheet comes first)"))
-            }
-            _ => Fault::File(why),
-        }
-    })?;
-    let mut text = match (&command.verb, Sheet::read(&given)) {
-        (Verb::Sheet, _) if given.len() > MOST => {
-            let file = command.file_shown();
-            return Err(Fault::File(format!("{file}: longer than {MOST} bytes")));
-        }
-        (Verb::Sheet, _) => {
-            text::read(&given, &command.clock).map_err(|fault| refused_line(command, &fault))?
-        }
-        (_, Ok(sheet)) => Text::of(sheet, &command.clock),
-        (_, Err(refusal)) => return refused(command, &given, refusal),
+    let given = bytes(&command.file, input).map_err(|error| unread(command, &error))?;
+    let mut text = match command.verb {
+        Verb::Sheet => text_of(command, &given)?,
+        _ => match Sheet::read(&given) {
+            Ok(sheet) => Text::of(sheet, &command.clock),
+            Err(refusal) => return refused(command, &given, refusal),
+        },
     };
     let clock = text.clock;
     text.sheet.cut(&command.cut, &clock).map_err(Fault::Use)?;
@@ -132,6 +117,18 @@ fn bytes(file: &OsStr, input: &mut dyn Read) -> Result<Vec<u8>, Error> {
     Ok(bytes)
 }
 
+/// What to say of a file that cannot be read. A word alone may be a command that there is not.
+fn unread(command: &Command, error: &Error) -> Fault {
+    let why = format!("{}: {error}", command.file_shown());
+    match command.verb {
+        _ if command.bare && error.kind() == ErrorKind::NotFound => {
+            Fault::Use(format!("no such command, and {why}"))
+        }
+        Verb::Whose(_) | Verb::Where(..) => Fault::File(format!("{why} (the sheet comes first)")),
+        _ => Fault::File(why),
+    }
+}
+
 /// What is in the vessels named, or in all.
 fn whose(ledger: &Ledger, words: &[String], clock: &Clock) -> Result<String, Fault> {
     let named = words.iter().map(|word| vessel(ledger, word));
@@ -194,11 +191,16 @@ fn refused(command: &Command, given: &[u8], refusal: Refusal) -> Result<Answer, 
     })
 }
 
-/// A text that makes no sheet.
-fn refused_line(command: &Command, fault: &LineFault) -> Fault {
-    let (file, line, why) = (command.file_shown(), fault.line, &fault.why);
-    Fault::Refused(match fault.refusal {
-        Some(refusal) => format!("{file}: line {line}: {refusal}: {why}"),
-        None => format!("{file}: line {line}: {why}"),
+/// A text that was read, or the line of its fault.
+fn text_of(command: &Command, given: &[u8]) -> Result<Text, Fault> {
+    let file = command.file_shown();
+    if given.len() > MOST {
+        return Err(Fault::File(format!("{file}: longer than {MOST} bytes")));
+    }
+    text::read(given, &command.clock).map_err(|LineFault { line, refusal, why }| {
+        Fault::Refused(match refusal {
+            Some(refusal) => format!("{file}: line {line}: {refusal}: {why}"),
+            None => format!("{file}: line {line}: {why}"),
+        })
     })
 }

@@ -52,14 +52,17 @@ fn faults_of_a_text() {
         (format!("{start}{movements}"), 4_100, "movements (15): there are at most 4096"),
     ];
     for (text, line, why) in faults {
-        let answer = ask("sheet -", text.as_bytes());
-        assert_eq!((answer.status, answer.out.len()), (1, 0), "{text}");
         let wanted = format!("lots: -: line {line}: {why}");
-        assert!(
-            answer.err.starts_with(&wanted),
-            "{}wanted {wanted}",
-            answer.err
-        );
+        // Lines are counted alike, however they end.
+        for end in ["\n", "\r\n", "\r"] {
+            let answer = ask("sheet -", text.replace('\n', end).as_bytes());
+            assert_eq!((answer.status, answer.out.len()), (1, 0), "{text}");
+            assert!(
+                answer.err.starts_with(&wanted),
+                "{}wanted {wanted}",
+                answer.err
+            );
+        }
     }
 }
 
