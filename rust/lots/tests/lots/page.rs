@@ -1,6 +1,6 @@
 //! The page, read back: its data, its table, its bars. What the script does with the data is tried in a browser.
 
-use crate::{ask, names_of, text};
+use crate::{ask, ask_words, names_of, text};
 use calls::{Piece, NAME_BYTES};
 use compare::{names, Random};
 use second::Sheet;
@@ -97,7 +97,7 @@ pub fn page(page: &str, names: &[String], pieces: &[Piece]) {
     assert_eq!(page.matches("<div class=\"card\" ").count(), names.len());
     assert_eq!(page.matches("<div class=\"bar\">").count(), names.len());
     // Tags are the page's own, whatever the names are: two scripts, no remark, and each tag closed.
-    assert!(!page.contains("<!--"));
+    assert!(!page.contains("<!--") && !page.contains("<0"));
     assert_eq!(page.matches("<script>").count(), 2);
     assert_eq!(page.matches("</script").count(), 2);
     for tag in [
@@ -157,4 +157,18 @@ fn names_come_out_right() {
         &names,
         &outcome.book.pieces(),
     );
+}
+
+/// The sheet's own name is no markup either, and a minute is shown as it was given.
+#[test]
+fn titles_come_out_right() {
+    let folder = std::env::temp_dir().join(format!("lots-{}", std::process::id()));
+    let file = folder.join("<i>&\"'.sheet");
+    std::fs::create_dir_all(&folder).expect("a folder");
+    std::fs::write(&file, crate::file("examples/two-paths.sheet")).expect("a file");
+    let words = ["page", file.to_str().expect("a path"), "--until=00001900"];
+    let page = String::from_utf8(ask_words(&words, b"").out).expect("text");
+    std::fs::remove_dir_all(&folder).expect("the folder is there");
+    assert!(page.contains("<li>sheet: &lt;i&gt;&amp;&quot;&#39;.sheet</li>"));
+    assert!(page.contains("<li>no movement after 00001900</li>"));
 }
