@@ -2,7 +2,7 @@
 
 use crate::clock::Clock;
 use crate::ledger::Ledger;
-use crate::sheet::RULES;
+use crate::sheet::{Cut, RULES};
 use crate::text;
 use crate::tool::MOST;
 use lumchaki::{
@@ -18,6 +18,7 @@ const MOVEMENT_COUNT: usize = 8;
 pub fn report(
     ledger: &Ledger,
     clock: &Clock,
+    cut: &Cut,
     stop: Option<(Stop, usize)>,
 ) -> Result<String, Refusal> {
     let (sheet, head) = (&ledger.sheet, &ledger.head);
@@ -33,10 +34,13 @@ pub fn report(
         Some(first) if accepted > 0 => clock.show_span((first.minute, head.last)),
         _ => "none".to_string(),
     };
+    let cut = cut.notes().into_iter();
+    let cut: String = cut.map(|note| format!("  cut        {note}\n")).collect();
     let lines = [
         format!("  rule       {rule}, {}\n", RULES[rule as usize]),
         format!("  vessels    {}\n", head.vessels),
         format!("  accepted   {accepted} of {movements} movements\n"),
+        cut,
         format!("  minutes    {minutes}\n"),
         format!("  pieces     {}\n", head.pieces),
         format!("  even       {}\n", ledger.even),
@@ -200,7 +204,13 @@ pub fn because(ledger: &Ledger, clock: &Clock, stop: &Stop) -> (String, String) 
     let met = match stop.refusal {
         Refusal::SameVessel => format!("{destination} is source and destination"),
         Refusal::NoWeight => "its weight is 0".to_string(),
-        Refusal::ClockBack => format!("the minute before it is {}", clock.show(ledger.head.last)),
+        Refusal::ClockBack => {
+            let [own, last] = [m.minute, ledger.head.last].map(|minute| match clock.start {
+                Some(_) => format!("{} ({minute})", clock.show(minute)),
+                None => minute.to_string(),
+            });
+            format!("its minute, {own}, is before the last one, {last}")
+        }
         Refusal::BeforeTime => {
             let (age, minute) = (m.age, m.minute);
             format!("its age, {age}, is above its minute, {minute}; let minute 0 be earlier")

@@ -4,6 +4,8 @@
 use crate::words::{number, shown};
 
 const DAYS: [&str; 7] = ["Mon", "Tue", "Wed", "Thu", "Fri", "Sat", "Sun"];
+/// What is said of a time that has no weekday of these.
+const NO_WEEKDAY: &str = "a time has its weekday, one of Mon Tue Wed Thu Fri Sat Sun, as Tue-06:00";
 const HOUR: u64 = 60;
 const DAY: u64 = 24 * HOUR;
 
@@ -52,7 +54,9 @@ impl Start {
         };
         let shown = shown(word);
         let (day, week, time) = apart().ok_or_else(|| {
-            format!("{shown}: a minute is a number, or a weekday and a time, as Tue-06:00")
+            format!(
+                "{shown}: a minute is a number, or a weekday and a time of 24 hours, as Tue-06:00"
+            )
         })?;
         let days = 7 * week + (7 + day - self.day) % 7;
         let minute = (days * DAY + time).checked_sub(self.time);
@@ -95,7 +99,7 @@ impl Clock {
     /// Reads a minute: a number, or a weekday and a time.
     pub fn read(&self, word: &str) -> Result<u32, String> {
         let why = match self.start {
-            _ if word.contains(':') && !is_moment(word) => "a time has its weekday, as Tue-06:00",
+            _ if word.contains(':') && !is_moment(word) => NO_WEEKDAY,
             _ if word.starts_with(|c: char| c.is_ascii_digit()) => return number(word),
             Some(start) => return start.minute(word),
             None if is_moment(word) => {

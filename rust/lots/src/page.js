@@ -11,7 +11,7 @@ const [section, form, origin, from, to, said] = ["recall", "ask", "origin", "fro
 
 function minuteOf(word) {
   const moment = DAYS.includes(word.slice(0, 3).toLowerCase());
-  if (word.includes(":") && !moment) return `${word}: a time has its weekday, as Tue-06:00`;
+  if (word.includes(":") && !moment) return `${word}: a time has its weekday, one of Mon Tue Wed Thu Fri Sat Sun, as Tue-06:00`;
   if (/^[0-9]/.test(word)) return numberOf(word);
   if (DATA.start) return momentOf(word);
   if (moment) {
@@ -30,7 +30,7 @@ function momentOf(word) {
   const day = parts ? DAYS.indexOf(parts[1].toLowerCase()) : -1;
   const [week, hour, minute] = parts ? [parts[2] || 0, parts[3], parts[4]].map(Number) : [];
   if (day < 0 || week > LARGEST || hour > 23 || minute > 59) {
-    return `${word}: a minute is a number, or a weekday and a time, as Tue-06:00`;
+    return `${word}: a minute is a number, or a weekday and a time of 24 hours, as Tue-06:00`;
   }
   const [startDay, startTime] = DATA.start;
   const days = 7 * week + ((7 + day - startDay) % 7);

@@ -96,16 +96,7 @@ impl Page<'_> {
             format!("minutes: {span}"),
             format!("{} g in all", self.origins.iter().map(|o| o.1).sum::<u64>()),
         ];
-        let until = self
-            .cut
-            .until
-            .as_ref()
-            .map(|m| format!("no movement after {}", html(m)));
-        let first = self
-            .cut
-            .movements
-            .map(|n| format!("no movement behind the first {n}"));
-        facts.extend(until.into_iter().chain(first));
+        facts.extend(self.cut.notes().iter().map(|note| html(note)));
         let facts: String = facts.iter().map(|f| format!("<li>{f}</li>\n")).collect();
         let stop = self.stop();
         format!("<header>\n<h1>Whose flour is in every vessel</h1>\n<ul class=\"facts\">\n{facts}</ul>\n{stop}</header>\n")

@@ -2,6 +2,7 @@
 
 use crate::clock::Clock;
 use crate::ledger::{percent, total, Ledger, Share};
+use crate::sheet::RULES;
 use lumchaki::Refusal;
 
 /// A line of names is not longer than this, where more than one name stands on it.
@@ -34,7 +35,8 @@ pub fn recall(
 ) -> Result<String, Refusal> {
     let hit = ledger.spread(origin, span.unwrap_or((0, u32::MAX)))?;
     let born = span.map_or("at any time".to_string(), |span| clock.show_span(span));
-    let mut text = format!("flour of {}, born {born}\n", ledger.name(origin));
+    let rule = RULES[ledger.head.rule as usize];
+    let mut text = format!("flour of {}, born {born}; {rule}\n", ledger.name(origin));
     for share in &hit {
         text += &line(ledger, share.holder, share, clock);
     }

@@ -1,6 +1,7 @@
 //! A sheet taken apart, and put together again, by the proved library.
 
 use crate::clock::Clock;
+use crate::words::shown;
 use lumchaki::{Refusal, Transfer, MOVEMENTS, MOVEMENT_BYTES, NAME_BYTES, SHEET_HEADER, VESSELS};
 
 /// The bytes of the longest sheet.
@@ -40,6 +41,17 @@ pub struct Cut {
     pub until: Option<String>,
     /// No more movements than these.
     pub movements: Option<u32>,
+}
+
+impl Cut {
+    /// What an answer leaves out, in words.
+    pub fn notes(&self) -> Vec<String> {
+        let until = self.until.as_ref();
+        let until = until.map(|minute| format!("no movement after {}", shown(minute)));
+        let count = self.movements;
+        let first = count.map(|count| format!("no movement behind the first {count}"));
+        until.into_iter().chain(first).collect()
+    }
 }
 
 impl Sheet {

@@ -48,20 +48,14 @@ pub fn carry_out(command: &Command, input: &mut dyn Read) -> Result<Answer, Faul
     let stop = ledger
         .stop
         .map(|stop| (stop, text.lines[stop.index as usize]));
-    let mut out = answer_to(command, &ledger, &clock, stop)?;
-    let (mut status, mut err) = (0, String::new());
-    if let Some((stop, line)) = stop {
-        status = 1;
-        err = stopped(command, &ledger, &clock, &stop, line);
-        if command.verb.is_for_people() {
-            out.splice(0..0, stood_before(&stop).into_bytes());
-        }
-    }
+    let mut out = notes(command, ledger.stop).into_bytes();
+    out.extend(answer_to(command, &ledger, &clock, stop)?);
+    let err = stop.map(|(stop, line)| stopped(command, &ledger, &clock, &stop, line));
     Ok(Answer {
-        status,
+        status: u8::from(err.is_some()),
         out,
         sheet: matches!(command.verb, Verb::Sheet),
-        err,
+        err: err.unwrap_or_default(),
     })
 }
 
@@ -79,19 +73,25 @@ fn answer_to(
         Verb::Where(origin, span) => recall(ledger, origin, span.as_ref(), clock)?,
         Verb::Whole { csv: true } => reports::csv(ledger)?,
         Verb::Whole { csv: false } => reports::whole(ledger)?,
-        Verb::Check => check::report(ledger, clock, stop)?,
+        Verb::Check => check::report(ledger, clock, &command.cut, stop)?,
         Verb::Text => text::write(&ledger.sheet, clock),
         Verb::Page => page::page(&command.title(), &command.cut, ledger, clock)?,
     };
     Ok(text.into_bytes())
 }
 
-/// The first line of an answer that people may keep without what went to standard error.
-fn stood_before(stop: &Stop) -> String {
-    let Stop { index, refusal } = stop;
-    format!(
-        "as it stood before movement {index} (the first is 0), where the sheet stops: {refusal}\n"
-    )
+/// The first lines of an answer that people may keep: it must not look as if the sheet had been followed to its end.
+fn notes(command: &Command, stop: Option<Stop>) -> String {
+    if !command.verb.is_for_people() {
+        return String::new();
+    }
+    let cut = command.cut.notes().into_iter();
+    let cut = cut.map(|note| format!("as it stood with {note}\n"));
+    let stop = stop.map(|Stop { index, refusal }| {
+        let place = format!("before movement {index} (the first is 0)");
+        format!("as it stood {place}, where the sheet stops: {refusal}\n")
+    });
+    cut.chain(stop).collect()
 }
 
 /// What is said of the movement where a sheet stops. The line is that of the text given, or of the one that

@@ -1,6 +1,6 @@
 //! Vessels by name or number.
 
-use crate::words::shown;
+use crate::words::{number, shown};
 
 /// The most names that are offered for one that is unknown.
 const OFFERED: usize = 3;
@@ -20,8 +20,9 @@ pub fn find(names: &[String], word: &str) -> Option<u32> {
 
 /// What to say of a vessel that is not there.
 pub fn unknown(names: &[String], word: &str) -> String {
-    let (near, word) = (nearest(names, word), shown(word));
+    let (near, numbered, word) = (nearest(names, word), number(word).is_ok(), shown(word));
     match near.is_empty() {
+        false if numbered => format!("{word} is none; numbers are below {}", names.len()),
         true => format!("{word} is none"),
         false => format!("{word} is none; the nearest: {}", near.join(" ")),
     }

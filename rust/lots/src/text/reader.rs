@@ -166,7 +166,11 @@ impl Reader {
         let age = at_most(age).map_err(of("age"))?;
         let vessel = |name: &str| {
             let found = self.names.iter().position(|n| n == name);
-            found.ok_or_else(|| refused(Refusal::NoVessel, unknown(&self.names, name)))
+            found.ok_or_else(|| {
+                let unknown = unknown(&self.names, name);
+                let why = format!("{unknown}; a new one has its line above, as: vessel SILO");
+                refused(Refusal::NoVessel, why)
+            })
         };
         let movement = Transfer {
             source: vessel(from)? as u32,
@@ -205,7 +209,7 @@ impl Reader {
 /// What to say of a text whose first word is this one.
 fn no_rule(word: &str) -> Wrong {
     wrong(match word.contains('\0') {
-        true => "this is no text of ASCII or UTF-8".to_string(),
+        true => "this is no text of ASCII or UTF-8: save it as UTF-8".to_string(),
         false => format!(
             "the rule stands first, as: rule 0. The rules are {}",
             rules()

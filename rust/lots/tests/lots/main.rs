@@ -57,3 +57,18 @@ fn names_of(sheet: &second::Sheet) -> Vec<String> {
     };
     sheet.names.iter().map(name).collect()
 }
+
+/// An answer or a page without the lines that say how much of the sheet was looked at.
+fn without_cut(shown: &[u8]) -> Vec<u8> {
+    let shown = String::from_utf8_lossy(shown);
+    let fronts = ["<li>", "as it stood with ", "  cut        "];
+    let cut = |line: &&str| {
+        let mut rest = fronts.iter().filter_map(|front| line.strip_prefix(front));
+        !rest.any(|rest| rest.starts_with("no movement "))
+    };
+    shown
+        .split_inclusive('\n')
+        .filter(cut)
+        .collect::<String>()
+        .into_bytes()
+}

@@ -68,7 +68,7 @@ fn vessels_by_name_or_number() {
             "where - MILER-B",
             "MILER-B is none; the nearest: MILLER-B MILLER-A",
         ),
-        ("where - 9", "9 is none; the nearest: BIN"),
+        ("where - 9", "9 is none; numbers are below 9"),
     ];
     for (line, why) in unknown {
         let answer = ask(line, &sheet);

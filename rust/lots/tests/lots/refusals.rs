@@ -1,6 +1,6 @@
 //! Every number that a sheet can get, through `check`, with its place.
 
-use crate::{ask, text};
+use crate::{ask, text, without_cut};
 use calls::{Refusal, Transfer, TOP};
 use compare::{sheet, Random};
 use second::Sheet;
@@ -74,7 +74,7 @@ fn stopping() -> Vec<(Vec<u8>, Refusal, &'static str)> {
     vec![
         (with([1, 1, 9, 1]), Refusal::SameVessel, "SILO is source and destination"),
         (with([1, 2, 9, 0]), Refusal::NoWeight, "its weight is 0"),
-        (with([1, 2, 6, 1]), Refusal::ClockBack, "the minute before it is 7"),
+        (with([1, 2, 6, 1]), Refusal::ClockBack, "its minute, 6, is before the last one, 7"),
         (moved(Transfer::new([1, 2, 9, 1]).aged(10)), Refusal::BeforeTime, "its age, 10, is above its minute, 9; let minute 0 be earlier"),
         (with([0, 1, 9, TOP]), Refusal::Overfull, "SILO holds 150 g, and a vessel holds at most 4294967295"),
     ]
@@ -150,6 +150,7 @@ fn still_answers(bytes: &[u8], stopped: &str) {
         );
         let out = String::from_utf8(answer.out).expect("text");
         let before = text(&format!("{command} --movements 2"), bytes);
+        let before = String::from_utf8(without_cut(before.as_bytes())).expect("text");
         match command {
             "page -" => assert!(out.contains("Stopped at movement 2 (the first is 0): ")),
             "whole - --csv" => assert_eq!(out, before),

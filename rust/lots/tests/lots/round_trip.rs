@@ -1,6 +1,6 @@
 //! Text and sheet, forth and back, byte for byte.
 
-use crate::{ask, text};
+use crate::{ask, text, without_cut};
 use compare::{aged_day, heaviest, sheet, working_day, Random};
 use second::Sheet;
 
@@ -116,23 +116,13 @@ fn cuts() {
             "list -",
         ] {
             let mut cut_there = ask(&format!("{command} {line}"), &whole.bytes());
-            if command == "page -" {
-                cut_there.out = without_cut(&cut_there.out);
-            }
+            let kept = without_cut(&cut_there.out);
+            let says_so = ["whose -", "where - 0", "whole -", "check -", "page -"];
+            assert_eq!(kept.len() < cut_there.out.len(), says_so.contains(&command));
+            cut_there.out = kept;
             assert_eq!(cut_there, ask(command, &cut.bytes()), "{command}");
         }
     }
-}
-
-/// A page without the lines that say how much of the sheet was looked at.
-fn without_cut(page: &[u8]) -> Vec<u8> {
-    let page = String::from_utf8_lossy(page);
-    let lines = page.split_inclusive('\n');
-    let kept: String = lines
-        .filter(|line| !line.starts_with("<li>no movement "))
-        .collect();
-    assert!(kept.len() < page.len());
-    kept.into_bytes()
 }
 
 /// How many movements lie before the first that is later than a minute.

@@ -31,7 +31,7 @@ fn faults_of_a_text() {
         (format!("{start}start Mon\nTue-05:00 MILL -> SILO 1g\n"), 5, "a blank stands before g; a movement is MINUTE"),
         (format!("{start}5 MILL->SILO 1 g\n"), 4, "the arrow is -> with blanks around it; a movement is MINUTE"),
         (format!("{start}5 MILL -> SILO 1 g # rye\n"), 4, "a remark has a line of its own; a movement is MINUTE"),
-        (format!("{start}start Mon\n05:00 MILL -> SILO 1 g\n"), 5, "05:00: a time has its weekday, as Tue-06:00"),
+        (format!("{start}start Mon\n05:00 MILL -> SILO 1 g\n"), 5, "05:00: a time has its weekday, one of Mon Tue Wed Thu Fri Sat Sun, as Tue-06:00"),
         (format!("{start}5 MILL -> SILO 1 g age 2h\n"), 4, "age 2h: not a whole number in digits alone"),
         ("r\0u\0l\0e\0 \x000\0\n".to_string(), 1, "this is no text of ASCII or UTF-8"),
         (format!("{start}5 MILL -> SILO 1 g age\n"), 4, "a movement is MINUTE"),
@@ -47,7 +47,7 @@ fn faults_of_a_text() {
         (format!("{start}5 MILL -> SILO 1 g age 99999999999\n"), 4, "filler (18): age 99999999999"),
         ("rule 4294967296\n".to_string(), 1, "rule unknown (2): the rules are"),
         ("rule 0\nvessel \u{1b}[2J\n".to_string(), 2, "name (17): \\u{1b}[2J: a name is"),
-        (format!("{start}5 {} -> SILO 1 g\n", "x".repeat(1 << 20)), 4, "no vessel (5): xxxxxxxxxxxxxxxxxxxxxxxxxxxxxxxxxxxxxxxx... is none\n"),
+        (format!("{start}5 {} -> SILO 1 g\n", "x".repeat(1 << 20)), 4, "no vessel (5): xxxxxxxxxxxxxxxxxxxxxxxxxxxxxxxxxxxxxxxx... is none; a new one has its line above, as: vessel SILO\n"),
         (format!("{start}5 MILL -> SILO 1 g age 65536\n"), 4, "filler (18): age 65536"),
         (format!("{start}{movements}"), 4_100, "movements (15): there are at most 4096"),
     ];
@@ -72,7 +72,7 @@ fn a_text_that_stops() {
     let text = "# a\nrule 0\n\nvessel A\nvessel B\n# b\n5 A -> B 1 g\n\n4 A -> B 1 g\n";
     let answer = ask("sheet -", text.as_bytes());
     let stopped =
-        "lots: -: line 9: stopped at movement 1: clock back (8): the minute before it is 5\n";
+        "lots: -: line 9: stopped at movement 1: clock back (8): its minute, 4, is before the last one, 5\n";
     assert_eq!((answer.status, answer.err.as_str()), (1, stopped));
     assert_eq!(Sheet::read(&answer.out).map(|s| s.movements.len()), Ok(2));
 }
