@@ -30,10 +30,6 @@ pub fn report(
         }
     };
     let (rule, accepted, movements) = (sheet.rule, head.accepted, sheet.movements.len());
-    let minutes = match sheet.movements.first() {
-        Some(first) if accepted > 0 => clock.show_span((first.minute, head.last)),
-        _ => "none".to_string(),
-    };
     let cut = cut.notes().into_iter();
     let cut: String = cut.map(|note| format!("  cut        {note}\n")).collect();
     let lines = [
@@ -41,7 +37,7 @@ pub fn report(
         format!("  vessels    {}\n", head.vessels),
         format!("  accepted   {accepted} of {movements} movements\n"),
         cut,
-        format!("  minutes    {minutes}\n"),
+        format!("  minutes    {}\n", ledger.minutes(clock)),
         format!("  pieces     {}\n", head.pieces),
         format!("  even       {}\n", ledger.even),
     ];

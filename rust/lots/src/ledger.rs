@@ -1,6 +1,7 @@
 //! A sheet that was run: the book that it leaves, and the questions to it. Every weight comes from the
 //! library's reports; births, which no report has, from the pieces that the run left.
 
+use crate::clock::Clock;
 use crate::sheet::Sheet;
 use lumchaki::{Head, Piece, Refusal, Stop, PLACES};
 use std::cmp::Reverse;
@@ -58,6 +59,16 @@ impl Ledger {
     /// The weight in a vessel.
     pub fn balance(&self, vessel: u32) -> u32 {
         self.head.balances[vessel as usize]
+    }
+
+    /// The minutes of the first and the last accepted movement, as people read them.
+    pub fn minutes(&self, clock: &Clock) -> String {
+        match self.sheet.movements.first() {
+            Some(first) if self.head.accepted > 0 => {
+                clock.show_span((first.minute, self.head.last))
+            }
+            _ => "none".to_string(),
+        }
     }
 
     /// The pieces in order of receipt.

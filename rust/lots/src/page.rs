@@ -83,17 +83,13 @@ impl Page<'_> {
 
     fn header(&self) -> String {
         let Ledger { sheet, head, .. } = self.ledger;
-        let span = match sheet.movements.first() {
-            Some(first) if head.accepted > 0 => self.clock.show_span((first.minute, head.last)),
-            _ => "none".to_string(),
-        };
         let (accepted, all) = (head.accepted, sheet.movements.len());
         let mut facts = vec![
             format!("sheet: {}", html(self.title)),
             format!("rule {}, {}", sheet.rule, RULES[sheet.rule as usize]),
             format!("vessels: {}", head.vessels),
             format!("movements accepted: {accepted} of {all}"),
-            format!("minutes: {span}"),
+            format!("minutes: {}", self.ledger.minutes(self.clock)),
             format!("{} g in all", self.origins.iter().map(|o| o.1).sum::<u64>()),
         ];
         facts.extend(self.cut.notes().iter().map(|note| html(note)));

@@ -108,33 +108,29 @@ fn wrapped(word: &str, names: &[&str]) -> String {
 /// Vessels by origins for people: origins whose flour is nowhere have no column, and 0 is a dot.
 pub fn whole(ledger: &Ledger) -> Result<String, Refusal> {
     let report = ledger.whole()?;
-    let vessels = ledger.head.vessels as usize;
-    let column = |origin| report.iter().skip(origin).step_by(vessels).copied();
-    let sums: Vec<u64> = (0..vessels)
-        .map(|o| column(o).map(u64::from).sum())
-        .collect();
-    let origins: Vec<usize> = (0..vessels).filter(|&o| sums[o] > 0).collect();
-    let width = |o: usize| ledger.name(o as u32).len().max(sums[o].to_string().len());
-    let cell = |n: u64| {
-        if n == 0 {
-            ".".to_string()
-        } else {
-            n.to_string()
-        }
+    let mut origins = ledger.origins()?;
+    origins.sort_unstable();
+    let cell = |weight: u64| match weight {
+        0 => ".".to_string(),
+        _ => weight.to_string(),
     };
-    let line = |word: &str, cells: &dyn Fn(usize) -> String, last: &str| {
+    let line = |word: &str, cells: &dyn Fn(u32, u64) -> String, last: &str| {
         let mut text = format!("{word:8}");
-        for &origin in &origins {
-            text += &format!("  {:>w$}", cells(origin), w = width(origin));
+        for &(origin, sum) in &origins {
+            let width = ledger.name(origin).len().max(cell(sum).len());
+            text += &format!("  {:>width$}", cells(origin, sum));
         }
         format!("{text}  {last:>12}\n")
     };
-    let mut text = line("", &|o| ledger.name(o as u32).to_string(), "total");
-    for (vessel, row) in ledger.vessels().zip(report.chunks_exact(vessels)) {
+    let mut text = line("", &|origin, _| ledger.name(origin).to_string(), "total");
+    let rows = report.chunks_exact(ledger.sheet.names.len());
+    for (vessel, row) in ledger.vessels().zip(rows) {
         let balance = cell(ledger.balance(vessel).into());
-        text += &line(ledger.name(vessel), &|o| cell(row[o].into()), &balance);
+        let weight = |origin, _| cell(row[origin as usize].into());
+        text += &line(ledger.name(vessel), &weight, &balance);
     }
-    text += &line("total", &|o| cell(sums[o]), &cell(sums.iter().sum()));
+    let total = cell(origins.iter().map(|&(_, sum)| sum).sum());
+    text += &line("total", &|_, sum| cell(sum), &total);
     Ok(text)
 }
 

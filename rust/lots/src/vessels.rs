@@ -12,8 +12,8 @@ const NEAR: usize = 32;
 pub fn find(names: &[String], word: &str) -> Option<u32> {
     let named = names.iter().position(|name| name == word);
     let numbered = || {
-        let plain = word.bytes().all(|b| b.is_ascii_digit());
-        word.parse().ok().filter(|&v| plain && v < names.len())
+        let vessel = number(word).ok()? as usize;
+        (vessel < names.len()).then_some(vessel)
     };
     named.or_else(numbered).map(|vessel| vessel as u32)
 }
