@@ -1,6 +1,6 @@
-/* Keeps a book from C: the six movements of the published table under rule 2 and a delivery of older
- * flour, the pieces they leave, and whose flour lies in vessel 0. Exits with 1 if anything differs from
- * what was worked out by hand.
+/* Keeps a book from C: the six movements of the published table under rule 2, a delivery of older flour,
+ * and a weighing whose vessel is chosen afterwards; the pieces they leave, and whose flour lies in vessel
+ * 0. Exits with 1 if anything differs from what was worked out by hand.
  *
  *   gcc -std=c99 -Wall -Wextra -pedantic -Iinclude examples/embed.c \
  *       target/staticlib/liblumchaki.a -o target/embed && target/embed */
@@ -19,10 +19,24 @@ static const uint32_t movements[MOVEMENTS][5] = {
 };
 
 static const uint32_t expected_pieces[PIECES][4] = {
-    {0, 2, 3, 2}, {2, 1, 5, 4}, {0, 1, 1, 1}, {0, 1, 1, 2}, {0, 1, 2, 3},
+    {0, 2, 3, 2}, {2, 1, 5, 4}, {0, 1, 2, 3}, {1, 1, 1, 1}, {1, 1, 1, 2},
 };
 
-static const uint32_t expected_held[VESSELS] = {0, 6, 2};
+static const uint32_t expected_held[VESSELS] = {0, 3, 2};
+
+/* Lifts 3 grams of vessel 0 onto the scale, two whole pieces, and tips them into vessel 1. Gives the
+ * number of the first of the two that was refused. */
+static uint32_t weigh(lumchaki_head *head, uint32_t *table) {
+    lumchaki_transferred lifted = lumchaki_lift(*head, table, 4 * PLACES, 0, 9, 3, 0);
+    lumchaki_tipped tipped;
+    if (lifted.number != LUMCHAKI_ACCEPTED) {
+        return lifted.number;
+    }
+    printf("%u g on the scale\n", (unsigned)lifted.head.scale);
+    tipped = lumchaki_tip(lifted.head, table, 4 * PLACES, 1, 10);
+    *head = tipped.head;
+    return tipped.number;
+}
 
 int main(void) {
     uint32_t table[4 * PLACES] = {0};
@@ -46,6 +60,11 @@ int main(void) {
         head = done.head;
     }
 
+    if (weigh(&head, table) != LUMCHAKI_ACCEPTED) {
+        fputs("lift or tip refused\n", stderr);
+        return 1;
+    }
+
     puts("holder origin birth weight");
     for (i = 0; i < head.pieces; i++) {
         const uint32_t *p = table + 4 * i;
@@ -64,11 +83,13 @@ int main(void) {
         fputs("that is not what was worked out\n", stderr);
         return 1;
     }
-    /* The clock does not run back, nothing is milled before minute 0, and a refusal changes nothing. */
-    if (lumchaki_transfer(head, table, 4 * PLACES, 2, 0, 8, 1, 0).number != LUMCHAKI_CLOCK_BACK ||
-        lumchaki_transfer(head, table, 4 * PLACES, 2, 0, 9, 1, 10).number != LUMCHAKI_BEFORE_TIME ||
+    /* The clock does not run back, nothing is milled before minute 0, the scale was emptied, and a refusal
+     * changes nothing. */
+    if (lumchaki_transfer(head, table, 4 * PLACES, 2, 0, 9, 1, 0).number != LUMCHAKI_CLOCK_BACK ||
+        lumchaki_transfer(head, table, 4 * PLACES, 2, 0, 10, 1, 11).number != LUMCHAKI_BEFORE_TIME ||
+        lumchaki_tip(head, table, 4 * PLACES, 0, 10).number != LUMCHAKI_SCALE_BARE ||
         memcmp(table, expected_pieces, sizeof expected_pieces) != 0) {
-        fputs("a transfer back in time was not refused\n", stderr);
+        fputs("what should be refused was not\n", stderr);
         return 1;
     }
     return 0;

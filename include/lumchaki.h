@@ -14,7 +14,8 @@
  * fresh memory first. What is lent for writing may not overlap anything else that is lent to the
  * call, and nobody else writes to what is lent until the call returns.
  *
- * Link with target/staticlib/liblumchaki.a. A transfer or a run needs less than 192 KiB of stack. */
+ * Link with target/staticlib/liblumchaki.a. A transfer, lift, tip or run needs less than 192 KiB of
+ * stack. */
 #ifndef LUMCHAKI_H
 #define LUMCHAKI_H
 
@@ -27,6 +28,7 @@ extern "C" {
 
 enum {
     LUMCHAKI_VESSELS = 64,        /* the most vessels of a book */
+    LUMCHAKI_SCALE = 64,          /* the holder number of the scale */
     LUMCHAKI_PLACES = 4096,       /* a table never counts more places than this */
     LUMCHAKI_MOVEMENTS = 4096,    /* the most movements of a sheet */
     LUMCHAKI_SHEET_HEADER = 24,   /* the bytes of a sheet before its names */
@@ -55,7 +57,7 @@ enum {
     LUMCHAKI_NO_WEIGHT = 7,     /* "empty scoop": the weight is 0 */
     LUMCHAKI_CLOCK_BACK = 8,    /* "clock back": the minute is before the last accepted one */
     LUMCHAKI_OVERFULL = 9,      /* "overfull": the destination's balance would pass 4,294,967,295 */
-    LUMCHAKI_TALLY_FULL = 10,   /* "tally full": 4,294,967,295 transfers were accepted already */
+    LUMCHAKI_TALLY_FULL = 10,   /* "tally full": 4,294,967,295 transfers and lifts were accepted */
     LUMCHAKI_TABLE_FULL = 11,   /* "tray full": a split or birth is due and no place is free */
     LUMCHAKI_SPAN_BACK = 12,    /* "span back": the span ends before it starts */
     LUMCHAKI_REPORT_SHORT = 13, /* "short form": the room for the report is too small */
@@ -66,7 +68,9 @@ enum {
     LUMCHAKI_AGE_OVER = 18,     /* "filler": an age that is to be written is above 65,535 */
     LUMCHAKI_OUTPUT_SHORT = 19, /* "short paper": the room for the sheet is too small */
     LUMCHAKI_PAST_END = 20,     /* "past the end": the movement asked for is not on the sheet */
-    LUMCHAKI_BEFORE_TIME = 21   /* "milled before time": the age is above the minute */
+    LUMCHAKI_BEFORE_TIME = 21,  /* "milled before time": the age is above the minute */
+    LUMCHAKI_SCALE_LOADED = 22, /* "scale loaded": there is weight on the scale */
+    LUMCHAKI_SCALE_BARE = 23    /* "scale bare": there is no weight on the scale */
 };
 
 /* The head of a book. A fresh one comes from lumchaki_open. */
@@ -74,14 +78,16 @@ typedef struct {
     uint32_t rule;
     uint32_t vessels;  /* 1 to 64 */
     uint32_t pieces;   /* so many pieces lie in the table */
-    uint32_t last;     /* the minute of the last accepted transfer */
-    uint32_t accepted; /* how many transfers were accepted */
+    uint32_t last;     /* the minute of the last accepted transfer, lift or tip */
+    uint32_t accepted; /* how many transfers and lifts were accepted */
     uint32_t balances[LUMCHAKI_VESSELS]; /* grams in each vessel, 0 from `vessels` on */
+    uint32_t scale;    /* grams on the scale */
 } lumchaki_head;
 
-/* A piece is four numbers of the table: holder, origin, birth minute, weight in grams. Piece i starts
- * at number 4 * i; the pieces lie in order of receipt. A table has a place for every four numbers, but
- * never more than 4,096. Numbers behind the last piece are never written. */
+/* A piece is four numbers of the table: holder, origin, birth minute, weight in grams. The holder is a
+ * vessel, or LUMCHAKI_SCALE for a piece on the scale; the origin is a vessel. Piece i starts at number
+ * 4 * i; the pieces lie in order of receipt. A table has a place for every four numbers, but never more
+ * than 4,096. Numbers behind the last piece are never written. */
 
 typedef struct {
     uint32_t number;
@@ -95,6 +101,11 @@ typedef struct {
     uint32_t split;     /* how many pieces were split: 0 or 1 */
     uint32_t born;      /* the weight that the source lacked, born there */
 } lumchaki_transferred;
+
+typedef struct {
+    uint32_t number;
+    lumchaki_head head; /* the next head; the one given on a refusal */
+} lumchaki_tipped;
 
 typedef struct {
     uint32_t number;
@@ -129,22 +140,38 @@ lumchaki_opened lumchaki_open(uint32_t rule, uint32_t vessels);
 
 /* Transfers weight from source to destination at a minute. Pieces of the source are picked by the rule
  * until the weight is reached; what the source lacks is born there. What is born was milled `age`
- * minutes before: its birth minute is minute - age. Checks 1, 4, 5 to 8, 21, 9 to 11. */
+ * minutes before: its birth minute is minute - age. Checks 1, 4, 22, 5 to 8, 21, 9 to 11. */
 lumchaki_transferred lumchaki_transfer(lumchaki_head head, uint32_t *table, size_t table_len,
                                        uint32_t source, uint32_t destination, uint32_t minute,
                                        uint32_t weight, uint16_t age);
 
-/* Writes `vessels` numbers: the weight by origin in a vessel. Checks 1, 4, 5, 13. */
+/* A transfer can be divided: a lift takes the weight onto the scale, a tip empties the scale into a
+ * vessel. Both in succession leave what the transfer leaves. Until the tip, transfers and reports are
+ * refused with 22. No call takes the scale's number for a vessel: it is 5. */
+
+/* Lifts weight from source onto the scale at a minute, picked and born as in a transfer. It counts as a
+ * transfer. Checks 1, 4, 22, 5, 7, 8, 21, 10, 11. */
+lumchaki_transferred lumchaki_lift(lumchaki_head head, uint32_t *table, size_t table_len,
+                                   uint32_t source, uint32_t minute, uint32_t weight, uint16_t age);
+
+/* Tips all that is on the scale into destination at a minute: its pieces move to the end of the table,
+ * in the order they lie. The destination may be where they were lifted from. It does not count as a
+ * transfer. Checks 1, 4, 23, 5, 8, 9. */
+lumchaki_tipped lumchaki_tip(lumchaki_head head, uint32_t *table, size_t table_len,
+                             uint32_t destination, uint32_t minute);
+
+/* Writes `vessels` numbers: the weight by origin in a vessel. Checks 1, 4, 22, 5, 13. */
 lumchaki_reported lumchaki_held(lumchaki_head head, const uint32_t *table, size_t table_len,
                                 uint32_t vessel, uint32_t *report, size_t report_len);
 
 /* Writes `vessels` numbers: the weight in each vessel that was born at an origin from one minute to
- * another, both included. Checks 1, 4, 5, 12, 13. */
+ * another, both included. Checks 1, 4, 22, 5, 12, 13. */
 lumchaki_reported lumchaki_spread(lumchaki_head head, const uint32_t *table, size_t table_len,
                                   uint32_t origin, uint32_t from, uint32_t to, uint32_t *report,
                                   size_t report_len);
 
-/* Writes `vessels` rows of `vessels` numbers: row v is the held report of vessel v. Checks 1, 4, 13. */
+/* Writes `vessels` rows of `vessels` numbers: row v is the held report of vessel v. Checks 1, 4, 22,
+ * 13. */
 lumchaki_reported lumchaki_whole(lumchaki_head head, const uint32_t *table, size_t table_len,
                                  uint32_t *report, size_t report_len);
 
@@ -181,7 +208,8 @@ uint32_t lumchaki_write(uint32_t rule, uint32_t vessels, const uint8_t *names, s
 
 /* Runs a sheet on a table: checks as lumchaki_read, then 1, opens a book and transfers until a
  * movement is refused, with 6 to 8, 21, 9 or 11. A run that stops so keeps the movements before its
- * stop. Without movements the head is that of lumchaki_open and the table stays as it was. */
+ * stop. Without movements the head is that of lumchaki_open and the table stays as it was. A sheet has
+ * no lifts and tips: the scale stays bare. */
 lumchaki_ran lumchaki_run(const uint8_t *sheet, size_t sheet_len, uint32_t *table, size_t table_len);
 
 #ifdef __cplusplus

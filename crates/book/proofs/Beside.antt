@@ -1,21 +1,26 @@
 -- What walks beside the weigh book: a call that a sound book accepts moves both alike, and where a place is free the weigh book gives
 -- the call's number. Each kind of call has one clause of `walks`.
 -- Assumes nothing.
-use mathlib.Core.Path.{_≡_, refl, sym, ap, _∙_}
-use mathlib.Core.List.{List, _∷_}
+use mathlib.Core.Path.{_≡_, refl, sym, ap, _∙_, subst}
+use mathlib.Core.List.{List, [], _∷_, _++_}
 use Prim.Native.Nat.{ℕ, zero, suc, _+_, _≤_}
 use native.Mathlib.Omega.{arith}
+use lib.Dec.{T}
 use lib.ListN.{length}
 use borrow.Author.Tests.{le-ltb, ne-eqb}
 use Rattle.table.specs.Pieces.{sum, bornAt, held}
 use Rattle.picking.proofs.Handed.{handed-births}
-use Rattle.refusal.specs.Numbers.{first, ifZero}
-use Rattle.book.specs.declared.Transfer.{Transfer}
-use Rattle.book.specs.Head.{Book}
-use Rattle.book.specs.Transfer.{ofBook, transferChecks, moveOf, piecesAfter}
-use Rattle.book.specs.Calls.{Call, post, ask, meaning}
-use Rattle.book.specs.WeighBook.{WeighBook, weighed, weighing, weighNumber, weighStep, listed}
-use Rattle.book.proofs.Sound.{number, takes-law, number-of, after-count, accepted-number, held-after}
+use Rattle.refusal.specs.Numbers.{Check, first, ifZero}
+use Rattle.refusal.proofs.Numbers.{named}
+use Rattle.book.specs.declared.Motion.{Motion}
+use Rattle.book.specs.Head.{Book, theScale}
+use Rattle.book.specs.Motion.{Standing, ofBook, piecesAfter, bookAfter}
+use Rattle.book.specs.Transfer.{transferChecks, motionOf}
+use Rattle.book.specs.Scale.{liftChecks, tipChecks, liftMotion, tipMotion, asTheyLie}
+use Rattle.book.specs.Calls.{Call, post, lift, tip, ask, tipOn, meaning}
+use Rattle.book.specs.WeighBook.{WeighBook, ofWeigh, weighed, weighing, weighNumber, weighStep, listed}
+use Rattle.book.specs.Lists.{tipsIn}
+use Rattle.book.proofs.Sound.{number, takes-law, taking-number, number-of, after-count, held-after, post-number, lift-number, tip-number}
 
 -- The weigh book beside the book.
 pub record Beside (b : Book) (w : WeighBook) : Type 0 where
@@ -24,6 +29,10 @@ pub record Beside (b : Book) (w : WeighBook) : Type 0 where
   pub births : (o t : ℕ) → sum (bornAt o t) (b .pieces) ≡ w .births o t
   pub same-last : b .last ≡ w .last
   pub same-count : b .accepted ≡ w .accepted
+
+-- so that they look the same to every check
+standing : (b : Book) (w : WeighBook) → Beside b w → ofBook b ≡ ofWeigh w
+standing b w r = λ i. record { vessels = r .same-size i; balance = λ v. r .weights v i; last = r .same-last i; accepted = r .same-count i }
 
 -- where the call is accepted
 pub record Accepts (b : Book) (w : WeighBook) (c : Call) : Type 0 where
@@ -37,41 +46,56 @@ pub record Foretells (places : ℕ) (b : Book) (w : WeighBook) (c : Call) : Type
 
 pub record Walks (places : ℕ) (b : Book) (w : WeighBook) (c : Call) : Type 0 where
   pub accepts : number places b c ≡ 0 → Accepts b w c
-  pub foretells : length (b .pieces) + meaning c .counts ≤ places → Foretells places b w c
+  pub foretells : length (b .pieces) + meaning c .counts ≤ places → (1 ≤ tipsIn c → 1 ≤ places) → Foretells places b w c
 
--- A transfer.
-module _ (places : ℕ) (b : Book) (x : Transfer) (w : WeighBook) (r : Beside b w) where
-  weigh-checks : weighNumber w (post x) ≡ first (transferChecks (ofBook b) x)
-  unfolding weighNumber transferChecks
-  weigh-checks = rw (← (r .same-size), ← (r .weights (x .destination)), ← (r .same-last), ← (r .same-count))
+-- A motion moves both alike.
+motion-beside : (b : Book) (rule : ℕ) (m : Motion) (w : WeighBook) → Beside b w → Beside (bookAfter b rule m) (weighed w m)
+motion-beside b rule m w r = record {
+  same-size = r .same-size;
+  weights = λ v. rw (← (r .weights v), ← (r .weights (m .moves .source))) (held-after b rule m v);
+  births = λ o t. rw (← (r .births o t), ← (r .weights (m .moves .source))) (handed-births (m .moves) (b .pieces) _ (takes-law b rule m .fair) o t);
+  same-last = refl;
+  same-count = ap (λ (n : ℕ). n + m .counts) (r .same-count);
+}
 
-  same-number : length (b .pieces) + 1 ≤ places → number places b (post x) ≡ weighNumber w (post x)
-  same-number h =
-      rw (number-of, weigh-checks, ne-eqb places 0 (λ z. omega arith), le-ltb places (length (piecesAfter b x)) (omega (arith, after-count places b x)))
-      (go (first (transferChecks (ofBook b) x)))
-    where
-      go : (n : ℕ) → ifZero n 0 n ≡ n
-      go zero = refl
-      go (suc n) = refl
+-- where the table has a place, the number of what takes weight from a vessel is that of its own checks
+free-number : (places : ℕ) (b : Book) (m : Motion) (cs : List Check) (ok : T (named cs)) → length (b .pieces) + 1 ≤ places → taking-number places b m cs ok ≡ first cs
+free-number places b m cs ok h =
+    rw (number-of places b m cs ok, ne-eqb places 0 (λ z. omega arith), le-ltb places (length (piecesAfter b (b .rule) m)) (omega (arith, after-count b (b .rule) m)))
+    (go (first cs))
+  where
+    go : (n : ℕ) → ifZero n 0 n ≡ n
+    go zero = refl
+    go (suc n) = refl
 
-  post-beside : Beside (meaning (post x) .next b) (weighed w x)
-  post-beside = record {
-    same-size = r .same-size;
-    weights = λ v. rw (← (r .weights v), ← (r .weights (x .source))) (held-after places b x v);
-    births = λ o t. rw (← (r .births o t), ← (r .weights (x .source))) (handed-births (moveOf x) (b .pieces) _ (takes-law b x .fair) o t);
-    same-last = refl;
-    same-count = ap suc (r .same-count);
-  }
+-- the weigh book has the same number, and moves only where that is 0
+foretold : (places : ℕ) (b : Book) (w : WeighBook) (c : Call) → number places b c ≡ weighNumber w c → Foretells places b w c
+foretold places b w c e = record { same = λ ns. ap (λ n. listed c n ns) e; stays = λ n z. ap (λ m. ifZero m (weighing c .next w) w) (sym e ∙ z) }
 
 pub walks : (places : ℕ) (b : Book) (w : WeighBook) (c : Call) → Beside b w → Walks places b w c
-unfolding weighNumber
+unfolding weighNumber number transferChecks liftChecks
 walks places b w (ask q room) r = record {
   accepts = λ e. record { weighs = refl; beside = r };
-  foretells = λ h. record { same = λ ns. refl; stays = λ n e. refl };
+  foretells = λ h k. record { same = λ ns. refl; stays = λ n e. refl };
 }
-walks places b w (post x) r = record {
-  accepts = λ e. record { weighs = weigh-checks places b x w r ∙ accepted-number places b x e .0; beside = post-beside places b x w r };
-  foretells = λ h.
-      let e = same-number places b x w r h in
-      record { same = λ ns. ap (λ n. n ∷ ns) e; stays = λ n z. ap (λ m. ifZero m (weighed w x) w) (sym e ∙ z) };
-}
+walks places b w (post x) r =
+    let s = ap (λ (g : Standing). first (transferChecks g x)) (standing b w r) in
+    record {
+      accepts = λ e. record { weighs = sym s ∙ post-number places b x e .0; beside = motion-beside b (b .rule) (motionOf x) w r };
+      foretells = λ h k. foretold places b w (post x) (free-number places b (motionOf x) (transferChecks (ofBook b) x) tt h ∙ s);
+    }
+walks places b w (lift x) r =
+    let s = ap (λ (g : Standing). first (liftChecks g x)) (standing b w r) in
+    record {
+      accepts = λ e. record { weighs = sym s ∙ lift-number places b x e .0; beside = motion-beside b (b .rule) (liftMotion x) w r };
+      foretells = λ h k. foretold places b w (lift x) (free-number places b (liftMotion x) (liftChecks (ofBook b) x) tt h ∙ s);
+    }
+walks places b w (tip y) r =
+    let s = ap (λ (g : Standing). first (tipChecks g y)) (standing b w r) in
+    record {
+      accepts = λ e. record {
+        weighs = sym s ∙ tip-number places b y e;
+        beside = subst (λ (n : ℕ). Beside (bookAfter b asTheyLie (tipOn b y)) (weighed w (tipMotion n y))) (r .weights theScale) (motion-beside b asTheyLie (tipOn b y) w r);
+      };
+      foretells = λ h k. foretold places b w (tip y) (rw (ne-eqb places 0 (λ z. let u = k (omega arith) in omega arith)) s);
+    }

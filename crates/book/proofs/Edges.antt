@@ -3,11 +3,11 @@
 -- (Pieces above the places show alone only past the most places: `too-many`.)
 -- Assumes nothing.
 use mathlib.Core.Path.{_≡_, refl}
-use mathlib.Core.Bool.{Bool, true, false, _&&_}
+use mathlib.Core.Bool.{Bool, true, false, _&&_, cond}
 use mathlib.Core.List.{List, [], _∷_, _++_, map}
 use Prim.Native.Nat.{ℕ, _<_, _-_}
 use native.Mathlib.Omega.{arith}
-use lib.Dec.{leb}
+use lib.Dec.{leb, eqb}
 use lib.ListN.{length, replicate}
 use borrow.Author.Tests.{lt-leb}
 use Rattle.table.specs.Table.{mostPlaces, piecesOf, placesOf}
@@ -15,8 +15,10 @@ use Rattle.refusal.specs.Numbers.{TOP, first}
 use Rattle.book.specs.declared.Head.{Head}
 use Rattle.book.specs.declared.Report.{Report}
 use Rattle.book.specs.declared.Report.the-variants.{Held, Spread, Whole}
-use Rattle.book.specs.Head.{lastRule, mostVessels, tab, balancesOf, allFit, same, addsUp, opening}
+use Rattle.book.specs.Head.{lastRule, mostVessels, theScale, tab, balancesOf, every, same, addsUp, opening}
+use Rattle.book.specs.Motion.{Standing}
 use Rattle.book.specs.Transfer.{transferOf, transferChecks}
+use Rattle.book.specs.Scale.{liftOf, tipOf, liftChecks, tipChecks}
 use Rattle.book.specs.Reports.{reportChecks}
 use Rattle.book.specs.Memory.{bookChecks}
 
@@ -25,14 +27,30 @@ pub record Edge : Type 0 where
   pub found : ℕ
   pub wanted : ℕ
 
--- "book off", 4, or 0, of a head with these numbers and balances, and a table
-abbrev book : ℕ → ℕ → ℕ → ℕ → ℕ → List ℕ → List ℕ → ℕ
-book rule vessels pieces last accepted balances t =
-    first (bookChecks (record { rule = rule; vessels = vessels; pieces = pieces; last = last; accepted = accepted; balances = balances ++ replicate (mostVessels - length balances) 0 }) t)
+-- "book off", 4, or 0, of a head with these numbers and balances and this weight on the scale, and a table
+abbrev loaded : ℕ → ℕ → ℕ → ℕ → ℕ → List ℕ → ℕ → List ℕ → ℕ
+loaded rule vessels pieces last accepted balances scale t =
+    first (bookChecks (record { rule = rule; vessels = vessels; pieces = pieces; last = last; accepted = accepted; balances = balances ++ replicate (mostVessels - length balances) 0; scale = scale }) t)
 
--- the number of a transfer where three vessels hold 5 each, the last minute is 7 and so many were accepted
+abbrev book : ℕ → ℕ → ℕ → ℕ → ℕ → List ℕ → List ℕ → ℕ
+book rule vessels pieces last accepted balances t = loaded rule vessels pieces last accepted balances 0 t
+
+-- three vessels that hold 5 each, so much on the scale, the last minute 7 and so many accepted
+abbrev stand : ℕ → ℕ → Standing
+stand scale accepted = record { vessels = 3; balance = λ v. cond (eqb v theScale) scale 5; last = 7; accepted = accepted }
+
+-- the number of a transfer where nothing is on the scale, and of one, a lift and a tip where so much is
 abbrev move : ℕ → ℕ → ℕ → ℕ → ℕ → ℕ → ℕ
-move accepted s d t q age = first (transferChecks (record { vessels = 3; balance = λ v. 5; last = 7; accepted = accepted }) (transferOf s d t q age))
+move accepted s d t q age = first (transferChecks (stand 0 accepted) (transferOf s d t q age))
+
+abbrev beside : ℕ → ℕ → ℕ → ℕ → ℕ → ℕ → ℕ
+beside scale s d t q age = first (transferChecks (stand scale 0) (transferOf s d t q age))
+
+abbrev raise : ℕ → ℕ → ℕ → ℕ → ℕ → ℕ → ℕ
+raise scale accepted s t q age = first (liftChecks (stand scale accepted) (liftOf s t q age))
+
+abbrev lower : ℕ → ℕ → ℕ → ℕ
+lower scale d t = first (tipChecks (stand scale TOP) (tipOf d t))
 
 -- the number of a report on three vessels, with so much room
 abbrev report : Report → ℕ → ℕ
@@ -71,6 +89,16 @@ edges =
     ∷ book 3 2 1 5 1 (0 ∷ 7 ∷ []) (1 ∷ 1 ∷ 5 ∷ 7 ∷ []) gives 0
     ∷ book 3 2 1 4 1 (0 ∷ 7 ∷ []) (1 ∷ 0 ∷ 5 ∷ 7 ∷ []) gives 4
     ∷ book 3 2 1 5 1 [] (1 ∷ 0 ∷ 5 ∷ 0 ∷ []) gives 4
+    -- a piece on the scale, and the scale's balance
+    ∷ loaded 3 2 1 5 1 [] 7 (64 ∷ 0 ∷ 5 ∷ 7 ∷ []) gives 0
+    ∷ loaded 3 2 1 5 1 [] 8 (64 ∷ 0 ∷ 5 ∷ 7 ∷ []) gives 4
+    ∷ loaded 3 2 1 5 1 [] 6 (64 ∷ 0 ∷ 5 ∷ 7 ∷ []) gives 4
+    ∷ loaded 3 2 1 5 1 [] 0 (64 ∷ 0 ∷ 5 ∷ 7 ∷ []) gives 4
+    ∷ loaded 3 2 1 5 1 (0 ∷ 7 ∷ []) 7 (1 ∷ 0 ∷ 5 ∷ 7 ∷ []) gives 4
+    ∷ loaded 3 2 2 5 2 [] 0 (64 ∷ 0 ∷ 5 ∷ TOP ∷ 64 ∷ 0 ∷ 5 ∷ 1 ∷ []) gives 4
+    ∷ loaded 3 2 1 5 1 [] 7 (65 ∷ 0 ∷ 5 ∷ 7 ∷ []) gives 4
+    ∷ loaded 3 64 1 5 1 [] 7 (64 ∷ 63 ∷ 5 ∷ 7 ∷ []) gives 0
+    ∷ loaded 3 64 1 5 1 [] 7 (64 ∷ 64 ∷ 5 ∷ 7 ∷ []) gives 4
     -- a balance below V, one that wraps, one from V on
     ∷ book 3 2 1 5 1 (0 ∷ 8 ∷ []) (1 ∷ 0 ∷ 5 ∷ 7 ∷ []) gives 4
     ∷ book 3 2 2 5 2 [] (1 ∷ 0 ∷ 5 ∷ TOP ∷ 1 ∷ 0 ∷ 5 ∷ 1 ∷ []) gives 4
@@ -98,6 +126,27 @@ edges =
     ∷ move TOP 2 1 7 (TOP - 4) 0 gives 9
     ∷ move (TOP - 1) 2 1 7 1 0 gives 0
     ∷ move TOP 2 1 7 1 0 gives 10
+    -- 22 of a transfer, before 5
+    ∷ beside 1 2 1 7 1 0 gives 22
+    ∷ beside 1 3 3 6 0 8 gives 22
+    -- checks 22, 5, 7, 8, 21, 10 of a lift, and their order; it has no 6 and no 9
+    ∷ raise 0 0 2 7 TOP 7 gives 0
+    ∷ raise 1 TOP 3 6 0 8 gives 22
+    ∷ raise 0 TOP 3 6 0 8 gives 5
+    ∷ raise 0 0 64 7 1 0 gives 5
+    ∷ raise 0 TOP 2 6 0 8 gives 7
+    ∷ raise 0 TOP 2 6 1 8 gives 8
+    ∷ raise 0 TOP 2 7 1 8 gives 21
+    ∷ raise 0 TOP 2 7 1 7 gives 10
+    ∷ raise 0 (TOP - 1) 2 7 1 7 gives 0
+    -- checks 23, 5, 8, 9 of a tip, and their order; it has no 10
+    ∷ lower 1 2 7 gives 0
+    ∷ lower 0 3 6 gives 23
+    ∷ lower (TOP - 4) 3 6 gives 5
+    ∷ lower 1 64 7 gives 5
+    ∷ lower (TOP - 4) 2 6 gives 8
+    ∷ lower (TOP - 4) 2 7 gives 9
+    ∷ lower (TOP - 5) 2 7 gives 0
     -- checks 5, 12, 13 of a report, and their order
     ∷ report (Held 2) 3 gives 0
     ∷ report (Held 3) 3 gives 5
@@ -114,7 +163,7 @@ edges =
     ∷ []
 
 pub at-the-edge : map (λ e. e .found) edges ≡ map (λ e. e .wanted) edges
-unfolding edges opening bookChecks addsUp allFit same balancesOf tab placesOf piecesOf transferChecks reportChecks
+unfolding edges opening bookChecks addsUp every same balancesOf tab placesOf piecesOf transferChecks liftChecks tipChecks reportChecks
 at-the-edge = refl
 
 -- More pieces than a table ever counts places: no computed case reaches it.

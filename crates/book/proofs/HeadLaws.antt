@@ -1,7 +1,7 @@
 -- Laws of the head: the tests by which a book adds up, what each says where it holds and that a sound piece and equal lists pass them;
 -- and opening: what passes its checks, and its answer by its number.
 -- Assumes nothing.
-use mathlib.Core.Path.{_≡_, refl, _∙_}
+use mathlib.Core.Path.{_≡_, refl, sym, _∙_}
 use mathlib.Core.Bool.{Bool, true, false, _&&_}
 use mathlib.Core.List.{List, [], _∷_}
 use Prim.Native.Nat.{ℕ, zero, suc, _≤_}
@@ -13,7 +13,7 @@ use Rattle.refusal.specs.Numbers.{first}
 use Rattle.refusal.proofs.Numbers.{Passed, passed}
 use Rattle.book.specs.declared.Head.{Head}
 use Rattle.book.specs.declared.Opened.{Opened}
-use Rattle.book.specs.Head.{lastRule, mostVessels, allOf, pieceTests, fits, allFit, same, emptyHead, notOpened, openChecks, opens, opening}
+use Rattle.book.specs.Head.{lastRule, mostVessels, allOf, pieceTests, fits, every, same, emptyHead, notOpened, openChecks, opens, opening}
 use Rattle.book.proofs.Sound.{SoundPiece}
 
 -- each test of the list holds
@@ -24,6 +24,12 @@ Hold (t ∷ ts) = (t ≡ true) × Hold ts
 pub both : (a b : Bool) → (a && b) ≡ true → (a ≡ true) × (b ≡ true)
 both true b e = (refl, e)
 both false b e = (e, cc)
+
+-- two tests that imply each other are the same
+pub same-test : (a b : Bool) → (a ≡ true → b ≡ true) → (b ≡ true → a ≡ true) → a ≡ b
+same-test true b f g = sym (f refl)
+same-test false true f g = g refl
+same-test false false f g = refl
 
 pub hold : (ts : List Bool) → allOf ts ≡ true → Hold ts
 hold [] e = tt
@@ -45,24 +51,24 @@ same-eq (x ∷ xs) (y ∷ ys) e = let u = both (eqb x y) (same xs ys) e in rw (e
 -- pieces that fit are sound
 module _ (size last : ℕ) where
   pub sound-fit : (p : Piece) → SoundPiece size last p → fits size last p ≡ true
-  sound-fit p h = rw (lt-ltb _ _ (h .holder-in), lt-ltb _ _ (h .origin-in), le-leb _ _ (h .past), le-leb 1 _ (h .weighty))
+  sound-fit p h = rw (h .holder-in, lt-ltb _ _ (h .origin-in), le-leb _ _ (h .past), le-leb 1 _ (h .weighty))
 
   by-name : (p : Piece) → Hold (pieceTests size last p) → SoundPiece size last p
   by-name p (holder, (origin, (birth, (weight, end)))) =
-      record { holder-in = ltb-true _ _ holder; origin-in = ltb-true _ _ origin; past = leb-true _ _ birth; weighty = leb-true 1 _ weight }
+      record { holder-in = holder; origin-in = ltb-true _ _ origin; past = leb-true _ _ birth; weighty = leb-true 1 _ weight }
 
   pub fit-sound : (p : Piece) → fits size last p ≡ true → SoundPiece size last p
   fit-sound p e = by-name p (hold (pieceTests size last p) e)
 
-  pub all-fit : {ps : List Piece} → All (SoundPiece size last) ps → allFit size last ps ≡ true
-  unfolding allFit
+  pub all-fit : {ps : List Piece} → All (SoundPiece size last) ps → every (fits size last) ps ≡ true
+  unfolding every
   all-fit done = refl
   all-fit (also {p = p} h x) = rw (sound-fit p h, all-fit x)
 
-  pub all-sound : (ps : List Piece) → allFit size last ps ≡ true → All (SoundPiece size last) ps
-  unfolding allFit
+  pub all-sound : (ps : List Piece) → every (fits size last) ps ≡ true → All (SoundPiece size last) ps
+  unfolding every
   all-sound [] e = done
-  all-sound (p ∷ ps) e = let u = both (fits size last p) (allFit size last ps) e in also (fit-sound p (u .0)) (all-sound ps (u .1))
+  all-sound (p ∷ ps) e = let u = both (fits size last p) (every (fits size last) ps) e in also (fit-sound p (u .0)) (all-sound ps (u .1))
 
 -- what a rule and a number of vessels are that pass opening's checks
 pub record Openable (rule size : ℕ) : Type 0 where

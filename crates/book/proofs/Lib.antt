@@ -1,3 +1,4 @@
+pub mod HolderLaws
 pub mod BalanceLaws
 pub mod Checks
 pub mod Sound
@@ -8,8 +9,10 @@ pub mod Known
 pub mod Drained
 pub mod After
 pub mod Lists
+pub mod Former
 pub mod Cases
 pub mod Marked
 pub mod Ages
 pub mod InWords
+pub mod Succession
 pub mod Edges

@@ -13,7 +13,7 @@ use Rattle.book.specs.Head.{Book, opened, openChecks, opens, opening, em
 use Rattle.book.specs.Calls.{Call, meaning}
 use Rattle.book.specs.Memory.{Outcome, callOn}
 use Rattle.book.specs.WeighBook.{WeighBook, weighing, blank, feed, forecast}
-use Rattle.book.specs.Lists.{Journal, callsOn, answered, follow, transfers, evens, numbers, Demand3}
+use Rattle.book.specs.Lists.{Journal, callsOn, answered, follow, transfers, tips, evens, numbers, Demand3}
 use Rattle.book.proofs.Sound.{number, SoundBook, keeps}
 use Rattle.book.proofs.Beside.{Beside, walks}
 use Rattle.book.proofs.Memory.{On, InStep, back, adds, in-step}
@@ -28,7 +28,7 @@ record Follows (places : ℕ) (b : Book) (w : WeighBook) (cs : List Call) (r : J
   beside : Beside final (feed w (answered (r .log)))
   count : length (final .pieces) + evens (r .log) + b .accepted ≡ length (b .pieces) + final .accepted
   tally : final .accepted ≡ transfers (answered (r .log)) + b .accepted
-  forecasts : length (b .pieces) + transfers cs ≤ places → numbers (r .log) ≡ forecast w cs
+  forecasts : length (b .pieces) + transfers cs ≤ places → (1 ≤ tips cs → 1 ≤ places) → numbers (r .log) ≡ forecast w cs
 
 module _ (places : ℕ) where
   abbrev Holds : List Call → Type 0
@@ -36,7 +36,7 @@ module _ (places : ℕ) where
 
   follows : (cs : List Call) → Holds cs
   unfolding callsOn follow feed forecast
-  follows [] h t b w on o r = record { final = b; on = on; sound = o; in-turn = refl; beside = r; count = omega arith; tally = omega arith; forecasts = λ h. refl }
+  follows [] h t b w on o r = record { final = b; on = on; sound = o; in-turn = refl; beside = r; count = omega arith; tally = omega arith; forecasts = λ h k. refl }
   follows (c ∷ cs) h t b w on o r = go (number places b c) refl (in-step places h t b on o c) (follows cs)
     where
       u : Outcome
@@ -55,7 +55,7 @@ module _ (places : ℕ) where
             beside = rw (s .number-is, feed, a .weighs, feed) (i .beside);
             count = rw (s .even-is) (omega (arith, i .count, k .count, k .tally));
             tally = rw (s .number-is) (omega (arith, i .tally, k .tally));
-            forecasts = λ h. rw (s .number-is, a .weighs, i .forecasts (omega (arith, k .count)));
+            forecasts = λ h q. rw (s .number-is, a .weighs, i .forecasts (omega (arith, k .count)) (λ u. q (omega arith)));
           }
       go (suc n) e s next =
           let i = next (u .head) (u .table) b w (s .holds) o r in
@@ -67,13 +67,14 @@ module _ (places : ℕ) where
             beside = rw (s .number-is) (i .beside);
             count = rw (s .even-is) (omega (arith, i .count));
             tally = rw (s .number-is) (i .tally);
-            forecasts = λ h.
-                let f = walks places b w c r .foretells (omega arith) in
-                rw (s .number-is, f .stays n e, ← e, f .same (numbers ((callsOn (u .head) (u .table) cs) .log)), i .forecasts (omega arith));
+            forecasts = λ h q.
+                let f = walks places b w c r .foretells (omega arith) (λ u. q (omega arith)) in
+                rw (s .number-is, f .stays n e, ← e, f .same (numbers ((callsOn (u .head) (u .table) cs) .log)), i .forecasts (omega arith) (λ u. q (omega arith)));
           }
 
 -- the theorem, from the fresh head
 pub opened-demand : (rule size : ℕ) → first (openChecks rule size) ≡ 0 → (t : List ℕ) (cs : List Call) → Demand3 rule size t cs (callsOn (emptyHead rule size) t cs)
+unfolding placesOf
 opened-demand rule size z t cs =
     let b = opened rule size in
     let f = follows (placesOf t) cs (emptyHead rule size) t b (blank size) (fresh-on rule size t) (fresh (placesOf t) rule size z)
@@ -85,7 +86,7 @@ opened-demand rule size z t cs =
       birth-sums = λ o m. rw (ap (λ b. b .pieces) k) (f .beside .births o m);
       even-count = rw (f .on .head-is) (omega (arith, f .count));
       accepted-count = rw (f .on .head-is) (omega (arith, f .tally));
-      forecasts = λ h. f .forecasts (omega arith);
+      forecasts = λ h q. f .forecasts (omega arith) (λ u. let k : 4 ≤ length t = q u in omega arith);
       adds-up = adds (placesOf t) _ _ _ (f .on) (f .sound);
     }
 
@@ -100,5 +101,6 @@ demand-3 rule size e t cs = go (first (openChecks rule size)) refl e
 
 -- "the same under all four rules": where there are places enough, two books of any rules give a list's transfers the same numbers.
 pub rules-alike : (one other size : ℕ) → (opening one size) .number ≡ 0 → (opening other size) .number ≡ 0 → (t u : List ℕ) (cs : List Call) → transfers cs ≤ placesOf t → transfers cs ≤ placesOf u
+    → (1 ≤ tips cs → (4 ≤ length t) × (4 ≤ length u))
     → numbers ((callsOn ((opening one size) .head) t cs) .log) ≡ numbers ((callsOn ((opening other size) .head) u cs) .log)
-rules-alike one other size e f t u cs h k = demand-3 one size e t cs .forecasts h ∙ sym (demand-3 other size f u cs .forecasts k)
+rules-alike one other size e f t u cs h k q = demand-3 one size e t cs .forecasts h (λ y. q y .0) ∙ sym (demand-3 other size f u cs .forecasts k (λ y. q y .1))

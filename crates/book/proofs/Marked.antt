@@ -10,8 +10,9 @@ use Rattle.table.specs.Table.{piecesOf, flat, placesOf}
 use Rattle.picking.specs.Selection.{precedes}
 use Rattle.picking.specs.Taking.{takeUpTo, taken}
 use Rattle.book.specs.declared.Transfer.{Transfer}
-use Rattle.book.specs.Head.{Book, tab, balancesOf, allFit, same, addsUp, opening}
-use Rattle.book.specs.Transfer.{transferChecks, takes}
+use Rattle.book.specs.Head.{Book, tab, balancesOf, every, same, addsUp, opening}
+use Rattle.book.specs.Motion.{takes}
+use Rattle.book.specs.Transfer.{transferChecks, motionOf}
 use Rattle.book.specs.Calls.{post, meaning}
 use Rattle.book.specs.Memory.{bookChecks, numberOf, callOn}
 use Rattle.book.specs.Former.{unaged}
@@ -92,9 +93,9 @@ marked =
     ∷ []
 
 pub marked-cases : map (λ c. seen (c .is)) marked ≡ map (λ c. c .is .wanted) marked
-unfolding marked callsOn callOn numberOf bookChecks addsUp allFit same balancesOf tab placesOf piecesOf flat opening transferChecks takes taken takeUpTo precedes feed weighNumber
+unfolding marked callsOn callOn numberOf bookChecks addsUp every same balancesOf tab placesOf piecesOf flat opening transferChecks takes taken takeUpTo precedes feed weighNumber
 marked-cases = refl
 
 -- K8: "q = balance of s, above 0, accepted: even under every rule", of every book.
 pub even-law : (b : Book) (x : Transfer) → x .weight ≡ held (x .source) (b .pieces) → meaning (post x) .even b ≡ 1
-even-law b x e = rw (all-taken 0 b x e)
+even-law b x e = rw (all-taken b (b .rule) (motionOf x) e)

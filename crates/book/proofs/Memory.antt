@@ -9,12 +9,13 @@ use native.Mathlib.Omega.{arith}
 use lib.Dec.{ltb, eqb}
 use lib.ListN.{length}
 use borrow.Author.Tests.{le-leb, le-ltb, ltb-true, ltb-false, eq-eqb, ne-eqb}
+use Rattle.table.specs.Pieces.{held}
 use Rattle.table.specs.Table.{placesOf}
 use Rattle.table.proofs.Table.{pieces-flat}
 use Rattle.refusal.specs.Numbers.{first, ifZero}
 use Rattle.refusal.proofs.Numbers.{not-zero, first-zero, passed, first-append}
 use Rattle.book.specs.declared.Head.{Head}
-use Rattle.book.specs.Head.{Book, lastRule, mostVessels, balancesOf, headOf, bookOf, addsUp}
+use Rattle.book.specs.Head.{Book, lastRule, mostVessels, theScale, balancesOf, headOf, bookOf, addsUp}
 use Rattle.book.specs.Calls.{Call, meaning, noAnswer}
 use Rattle.book.specs.Memory.{outcome, bookChecks, numberOf, callOn}
 use Rattle.book.proofs.Sound.{number, SoundBook, Lies, keeps}
@@ -38,6 +39,15 @@ module _ (h : Head) (t : List ℕ) (c : Bool) (long : 4 ≤ length t) (e : c ≡
   unfolding bookChecks
   book-off q = rw (le-ltb _ _ long, ← e, q)
 
+-- a call answers its number
+pub call-number : (h : Head) (t : List ℕ) (c : Call) → (callOn h t c) .number ≡ numberOf h t c
+unfolding callOn
+call-number h t c = go (numberOf h t c)
+  where
+    go : (n : ℕ) → (outcome h t (meaning c) n) .number ≡ n
+    go zero = refl
+    go (suc n) = refl
+
 -- a refused call gives back the head and leaves all memory as it was
 pub refused-on : (h : Head) (t : List ℕ) (c : Call) (n : ℕ) → numberOf h t c ≡ n → (n ≡ 0 → ⊥)
     → callOn h t c ≡ record { number = n; answer = noAnswer; head = h; table = t; room = meaning c .lent; even = 0 }
@@ -47,6 +57,11 @@ refused-on h t c n e nz = rw e (go n nz)
     go : (n : ℕ) → (n ≡ 0 → ⊥) → outcome h t (meaning c) n ≡ record { number = n; answer = noAnswer; head = h; table = t; room = meaning c .lent; even = 0 }
     go zero nz = absurd (nz refl)
     go (suc n) nz = refl
+
+-- and an accepted one gives and leaves what it means
+pub accepted-on : (h : Head) (t : List ℕ) (c : Call) → numberOf h t c ≡ 0 → callOn h t c ≡ outcome h t (meaning c) 0
+unfolding callOn
+accepted-on h t c e = rw e
 
 pub refused-memory : (h : Head) (t : List ℕ) (c : Call) → ((callOn h t c) .number ≡ 0 → ⊥) → ((callOn h t c) .head ≡ h) × ((callOn h t c) .table ≡ t)
 unfolding callOn
@@ -112,6 +127,7 @@ module _ (places : ℕ) (h : Head) (t : List ℕ) (b : Book) (on : On places h t
     le-leb _ _ (o .counted),
     all-fit _ _ (o .sound),
     same-refl (balancesOf (b .vessels) (b .pieces)),
+    eq-eqb (held theScale (b .pieces)) _ refl,
   )
 
   pub number-same : (c : Call) → numberOf h t c ≡ number places b c

@@ -1,6 +1,8 @@
 pub mod Head
 pub mod Audit
+pub mod Motion
 pub mod Transfer
+pub mod Scale
 pub mod Reports
 pub mod Calls
 pub mod Memory

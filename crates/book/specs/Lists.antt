@@ -4,12 +4,13 @@ use mathlib.Core.Path.{_≡_}
 use mathlib.Core.Bool.{true}
 use mathlib.Core.List.{List, [], _∷_}
 use Prim.Native.Nat.{ℕ, _+_, _≤_}
+use lib.ListN.{length}
 use Rattle.table.specs.Pieces.{sum, bornAt, held}
 use Rattle.table.specs.Table.{placesOf}
 use Rattle.refusal.specs.Numbers.{ifZero}
 use Rattle.book.specs.declared.Head.{Head}
 use Rattle.book.specs.Head.{Book, bookOf, addsUp, opened}
-use Rattle.book.specs.Calls.{Call, meaning}
+use Rattle.book.specs.Calls.{Call, post, lift, tip, ask, meaning}
 use Rattle.book.specs.Memory.{Outcome, callOn}
 use Rattle.book.specs.WeighBook.{blank, feed, listed, forecast}
 
@@ -42,10 +43,21 @@ unfoldable pub follow : Book → List Call → Book
 follow b [] = b
 follow b (c ∷ cs) = follow (meaning c .next b) cs
 
--- how many of the calls are transfers; how many transfers answered 0 were even; the numbers of the transfers
+-- how many of the calls are transfers, lifts counted, and how many are tips; how many transfers answered 0 were even; the numbers of
+-- transfers, lifts and tips
 abbrev pub transfers : List Call → ℕ
 transfers [] = 0
 transfers (c ∷ cs) = meaning c .counts + transfers cs
+
+abbrev pub tipsIn : Call → ℕ
+tipsIn (post x) = 0
+tipsIn (lift x) = 0
+tipsIn (tip y) = 1
+tipsIn (ask q room) = 0
+
+abbrev pub tips : List Call → ℕ
+tips [] = 0
+tips (c ∷ cs) = tipsIn c + tips cs
 
 abbrev pub evens : List Entry → ℕ
 evens [] = 0
@@ -59,15 +71,16 @@ numbers (e ∷ es) = listed (e .asked) (e .number) (numbers es)
 pub record Demand3 (rule size : ℕ) (t : List ℕ) (cs : List Call) (r : Journal) : Type 0 where
   -- the pieces are those, in that order, of the accepted calls followed in turn from the empty book
   pub in-turn : bookOf (r .head) (r .table) ≡ follow (opened rule size) (answered (r .log))
-  -- in each vessel they sum to the weigh book's weight there, fed the accepted transfers
+  -- in each vessel, and on the scale, they sum to the weigh book's weight there, fed the accepted transfers, lifts and tips
   pub vessel-sums : (v : ℕ) → held v ((bookOf (r .head) (r .table)) .pieces) ≡ (feed (blank size) (answered (r .log))) .weight v
   -- for each origin and birth minute they sum to what the weigh book saw born
   pub birth-sums : (o m : ℕ) → sum (bornAt o m) ((bookOf (r .head) (r .table)) .pieces) ≡ (feed (blank size) (answered (r .log))) .births o m
-  -- pieces + even transfers = accepted transfers
+  -- pieces + even transfers = accepted transfers, with lifts as transfers and no tip counted
   pub even-count : r .head .pieces + evens (r .log) ≡ r .head .accepted
-  -- the head's count is the number of transfers answered 0
+  -- the head's count is the number of transfers and lifts answered 0
   pub accepted-count : r .head .accepted ≡ transfers (answered (r .log))
-  -- where no more transfers are listed, refused ones counted, than there are places, the weigh book alone gives every transfer's number
-  pub forecasts : transfers cs ≤ placesOf t → numbers (r .log) ≡ forecast (blank size) cs
+  -- where no more transfers are listed, lifts and refused ones counted, than there are places, the weigh book alone gives the number of every
+  -- transfer and lift; and of every tip, if the table has at least 4 numbers
+  pub forecasts : transfers cs ≤ placesOf t → (1 ≤ tips cs → 4 ≤ length t) → numbers (r .log) ≡ forecast (blank size) cs
   -- the book adds up, so that number 4 never comes
   pub adds-up : addsUp (r .head) (r .table) ≡ true

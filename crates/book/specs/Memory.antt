@@ -11,6 +11,7 @@ use Rattle.table.specs.Table.{placesOf}
 use Rattle.refusal.specs.Numbers.{Check, _if_, first}
 use Rattle.book.specs.declared.Head.{Head}
 use Rattle.book.specs.declared.Transferred.{Transferred}
+use Rattle.book.specs.declared.Tipped.{Tipped}
 use Rattle.book.specs.declared.Reported.{Reported}
 use Rattle.book.specs.Head.{headOf, bookOf, addsUp}
 use Rattle.book.specs.Calls.{Call, Answer, noAnswer, Meaning, meaning}
@@ -24,7 +25,7 @@ pub record Outcome : Type 0 where
   pub room : List ℕ
   pub even : ℕ
 
--- "a transfer 1, 4, then 5 to 11 (21 straight after 8); reports 1, 4, 5, 12, 13. The first that applies is given."
+-- "a transfer 1, 4, then 5 to 11 (21 straight after 8); reports 1, 4, 5, 12, 13. The first that applies is given." 22 and 23 come after 4.
 unfoldable pub bookChecks : Head → List ℕ → List Check
 bookChecks h t = 1 if ltb (length t) 4 ∷ 4 if not (addsUp h t) ∷ []
 
@@ -45,6 +46,9 @@ callOn h t c = outcome h t (meaning c) (numberOf h t c)
 -- the outcome as the code answers it
 abbrev pub transferred : Outcome → Transferred
 transferred o = record { number = o .number; head = o .head; whole = o .answer .whole; split = o .answer .split; born = o .answer .born }
+
+abbrev pub tipped : Outcome → Tipped
+tipped o = record { number = o .number; head = o .head }
 
 abbrev pub reported : Outcome → Reported
 reported o = record { number = o .number; head = o .head }

@@ -1,24 +1,34 @@
 // Whether a book adds up.
 ghost use mathlib.Core.Path.{_≡_};
+ghost use mathlib.Core.List.{_++_};
 ghost use Prim.Native.Nat.{_≤_, _*_};
-ghost use lib.ListN.{length};
+ghost use lib.ListN.{length, drop};
 ghost use Rattle.table.specs.Table.{piecesOf};
-ghost use Rattle.book.specs.Head.{mostVessels, addsUp, fits, Sized};
+ghost use Rattle.book.specs.Head.{mostVessels, mostHolders, isHolder, allOf, lotFits, fits, balanced, addsUp, Sized};
 ghost use Rattle.refusal.specs.Numbers.{first};
 ghost use Rattle.book.specs.Memory.{bookChecks};
 ghost use Rattle.book.specs.Audit.{covers, allZero, drained};
 use super::BALANCES;
+use super::HOLDERS;
 use super::Head;
+use super::SCALE;
 use super::opening;
 use table::Piece;
 
-// Whether the piece fits a book of so many vessels with this last minute.
-fn fits_in(p: Piece, vessels: u32, last: u32) -> bool
-    ensures { λ r. ⌜ r ≡ fits vessels last p ⌝ }
+// Whether a book of so many vessels has the holder: a vessel, or the scale.
+fn is_holder(holder: u32, vessels: u32) -> bool
+    ensures { λ r. ⌜ r ≡ isHolder vessels holder ⌝ }
 {
-    if vessels <= p.holder {
-        return false;
+    if holder < vessels {
+        return true;
     }
+    holder == SCALE
+}
+
+// Whether the piece has an origin, a birth minute and a weight that fit a book of so many vessels with this last minute.
+fn lot_fits(p: Piece, vessels: u32, last: u32) -> bool
+    ensures { λ r. ⌜ r ≡ lotFits vessels last p ⌝ }
+{
     if vessels <= p.origin {
         return false;
     }
@@ -31,9 +41,19 @@ fn fits_in(p: Piece, vessels: u32, last: u32) -> bool
     true
 }
 
+// Whether the piece fits such a book, wherever it lies.
+fn fits_in(p: Piece, vessels: u32, last: u32) -> bool
+    ensures { λ r. ⌜ r ≡ fits vessels last p ⌝ }
+{
+    if is_holder(p.holder, vessels) {
+        return lot_fits(p, vessels, last);
+    }
+    false
+}
+
 // Whether the piece fits, and what is left of its holder's balance covers it.
 fn is_covered(p: Piece, vessels: u32, last: u32, rest: &[u32]) -> bool
-    requires { ⌜ (vessels ≤ mostVessels) × (length (now rest) ≡ mostVessels) ⌝ }
+    requires { ⌜ (vessels ≤ mostVessels) × (length (now rest) ≡ mostHolders) ⌝ }
     ensures { λ r. ⌜ r ≡ covers vessels last (now (rest .entry)) p ⌝ }
 {
     if fits_in(p, vessels, last) {
@@ -56,8 +76,20 @@ fn all_zero(rest: &[u32]) -> bool
     true
 }
 
-// Whether the n pieces draw the balances down to nothing.
-fn drains(table: &[u32], n: usize, vessels: u32, last: u32, balances: [u32; BALANCES]) -> bool
+// The numbers are copied to the start of others.
+fn copy_into(from: &[u32], to: &mut [u32])
+    requires { ⌜ length (now from) ≤ length (now to) ⌝ }
+    ensures { λ _. ⌜ now (to .exit) ≡ now (from .entry) ++ drop (length (now (from .entry))) (now (to .entry)) ⌝ }
+{
+    let mut i: usize = 0;
+    while i < from.len() {
+        to[i] = from[i];
+        i += 1;
+    }
+}
+
+// Whether the n pieces draw the balances of all holders down to nothing.
+fn drains(table: &[u32], n: usize, vessels: u32, last: u32, balances: [u32; HOLDERS]) -> bool
     requires { ⌜ (4 * n ≤ length (now table)) × (vessels ≤ mostVessels) ⌝ }
     ensures { λ r. ⌜ r ≡ drained vessels last balances (piecesOf n (now (table .entry))) ⌝ }
 {
@@ -74,6 +106,18 @@ fn drains(table: &[u32], n: usize, vessels: u32, last: u32, balances: [u32; BALA
         }
     }
     all_zero(&rest)
+}
+
+// Whether the n pieces fit, and the balances of the head, the scale's among them, are their sums.
+fn is_balanced(head: Head, table: &[u32], n: usize) -> bool
+    requires { ⌜ (4 * n ≤ length (now table)) × (head .vessels ≤ mostVessels) ⌝ }
+    ensures { λ r. ⌜ r ≡ allOf (balanced head (piecesOf n (now (table .entry)))) ⌝ }
+{
+    let vessels = head.balances;
+    let mut balances = [0u32; HOLDERS];
+    copy_into(&vessels, &mut balances);
+    balances[BALANCES] = head.scale;
+    drains(table, n, head.vessels, head.last, balances)
 }
 
 // Whether the book adds up: one pass over the pieces.
@@ -96,8 +140,7 @@ pub fn adds_up(head: Head, table: &[u32]) -> bool
     if head.accepted < head.pieces {
         return false;
     }
-    let balances = head.balances;
-    drains(table, n, head.vessels, head.last, balances)
+    is_balanced(head, table, n)
 }
 
 // Checks 1 and 4, which every call makes first.

@@ -23,6 +23,7 @@ pub fn empty_head(rule: u32, vessels: u32) -> Head
         last: 0,
         accepted: 0,
         balances: [0u32; BALANCES],
+        scale: 0,
     }
 }
 

@@ -6,3 +6,4 @@ pub mod Picks
 pub mod Planned
 pub mod Keys
 pub mod Walk
+pub mod Sweeping

@@ -3,3 +3,4 @@ pub mod Taking
 pub mod InTable
 pub mod Plan
 pub mod Ordering
+pub mod Sweeping

@@ -4,7 +4,7 @@
 --    6 same tub        7 empty scoop    8 clock back     9 overfull      10 tally full
 --   11 tray full      12 span back     13 short form    14 no sheet      15 movements
 --   16 layout         17 name          18 filler        19 short paper   20 past the end
---   21 milled before time
+--   21 milled before time   22 scale loaded   23 scale bare
 -- 18 keeps its word; what it refuses is an age above 65,535.
 -- Definitions only. Assumes nothing.
 use mathlib.Core.Bool.{Bool, true, false}

@@ -43,5 +43,9 @@ pub const PAST_END: u32 = 20; // past the end
 
 pub const BEFORE_TIME: u32 = 21; // milled before time
 
+pub const SCALE_LOADED: u32 = 22; // scale loaded
+
+pub const SCALE_BARE: u32 = 23; // scale bare
+
 // The largest number of 32 bits: no weight, minute or count is above it.
 pub const TOP: u32 = 4294967295;

@@ -13,12 +13,14 @@ type Timed = Option<&'static dyn Engine>;
 type Row = (&'static str, fn(&Loads, Timed) -> f64);
 
 /// The rows of the table.
-pub const ROWS: [Row; 8] = [
+pub const ROWS: [Row; 10] = [
     ("heaviest sheet, 4,096 movements", Loads::heaviest),
     ("bakery's day, 4,096 movements", Loads::day),
     ("the same day, ages in any order", Loads::aged_day),
     ("light transfer, a part of one lot", Loads::light),
+    ("the same, by lift and tip", Loads::light_divided),
     ("heavy transfer, 4,096 pieces whole", Loads::heavy),
+    ("the same, by lift and tip", Loads::heavy_divided),
     ("held report, 4,096 pieces", Loads::held),
     ("spread report, 4,096 pieces", Loads::spread),
     ("whole report, 4,096 pieces", Loads::whole),
@@ -80,16 +82,21 @@ fn book_of(random: &mut Random, rule: u32, pieces: usize, vessels: u32) -> Full 
 }
 
 impl Full {
-    /// The time of some transfers, one after the other, from this book on.
-    fn transfers(&self, engine: Timed, transfers: &[Transfer]) -> f64 {
+    /// The time of some transfers, one after the other, from this book on, and of a single one. They are
+    /// made by an engine, which gives the next head, or by the second implementation.
+    fn time(
+        &self,
+        engine: Timed,
+        transfers: &[Transfer],
+        by_engine: impl Fn(&dyn Engine, Head, &mut [u32], Transfer) -> Head,
+        by_second: impl Fn(&mut Book, Transfer),
+    ) -> f64 {
         let seconds = match engine {
             Some(engine) => best(
                 || (self.head, self.table.clone()),
                 |(head, table)| {
                     for t in transfers {
-                        let answer = engine.transfer(*head, table, *t);
-                        assert_eq!(answer.number, 0);
-                        *head = answer.head;
+                        *head = by_engine(engine, *head, table, *t);
                     }
                 },
             ),
@@ -97,12 +104,39 @@ impl Full {
                 || self.second.clone(),
                 |book| {
                     for t in transfers {
-                        book.transfer(*t).expect("accepted");
+                        by_second(book, *t);
                     }
                 },
             ),
         };
         seconds / transfers.len() as f64
+    }
+
+    fn transfers(&self, engine: Timed, transfers: &[Transfer]) -> f64 {
+        let by_engine = |engine: &dyn Engine, head, table: &mut [u32], t| {
+            let answer = engine.transfer(head, table, t);
+            assert_eq!(answer.number, 0);
+            answer.head
+        };
+        let by_second = |book: &mut Book, t| {
+            book.transfer(t).expect("accepted");
+        };
+        self.time(engine, transfers, by_engine, by_second)
+    }
+
+    /// Each transfer is divided: both halves are timed together.
+    fn divided(&self, engine: Timed, transfers: &[Transfer]) -> f64 {
+        let by_engine = |engine: &dyn Engine, head, table: &mut [u32], t: Transfer| {
+            let lifted = engine.lift(head, table, t.lift());
+            let tipped = engine.tip(lifted.head, table, t.tip());
+            assert_eq!((lifted.number, tipped.number), (0, 0));
+            tipped.head
+        };
+        let by_second = |book: &mut Book, t: Transfer| {
+            book.lift(t.lift()).expect("accepted");
+            book.tip(t.tip()).expect("accepted");
+        };
+        self.time(engine, transfers, by_engine, by_second)
     }
 }
 
@@ -147,20 +181,38 @@ impl Loads {
         run(engine, &self.aged_day)
     }
 
-    fn light(&self, engine: Timed) -> f64 {
-        // No vessel both gives and receives, so that each transfer splits a lot under every rule.
+    /// No vessel both gives and receives, so that each transfer splits a lot under every rule.
+    fn light_transfers(&self) -> Vec<Transfer> {
         let half = VESSELS as u32 / 2;
         let last = self.nearly_full.head.last;
         let light = |i: u32| Transfer::new([i % half, half + i % half, last, 10]);
-        let transfers: Vec<Transfer> = (0..LIGHT as u32).map(light).collect();
+        (0..LIGHT as u32).map(light).collect()
+    }
+
+    fn light(&self, engine: Timed) -> f64 {
+        let transfers = self.light_transfers();
         self.nearly_full.transfers(engine, &transfers)
     }
 
-    fn heavy(&self, engine: Timed) -> f64 {
+    fn light_divided(&self, engine: Timed) -> f64 {
+        let transfers = self.light_transfers();
+        self.nearly_full.divided(engine, &transfers)
+    }
+
+    /// All of a vessel forth and back.
+    fn heavy_transfers(&self) -> [Transfer; 2] {
         let Head { last, balances, .. } = self.heap.head;
         let forth = Transfer::new([0, 1, last, balances[0]]);
         let back = Transfer::new([1, 0, last, balances[0]]);
-        self.heap.transfers(engine, &[forth, back])
+        [forth, back]
+    }
+
+    fn heavy(&self, engine: Timed) -> f64 {
+        self.heap.transfers(engine, &self.heavy_transfers())
+    }
+
+    fn heavy_divided(&self, engine: Timed) -> f64 {
+        self.heap.divided(engine, &self.heavy_transfers())
     }
 
     fn held(&self, engine: Timed) -> f64 {

@@ -27,9 +27,7 @@ fn main() {
     let subjects = compare::subjects();
     let labels = subjects.iter().map(|e| e.label()).chain([Second.label()]);
     let labels: Vec<&str> = labels.collect();
-    println!(
-        "Best of many runs. Head and table are checked in full by each single transfer and report"
-    );
+    println!("Best of many runs. Head and table are checked in full by each single call on a book");
     println!(
         "of library and plain; the second implementation keeps its own pieces and trusts them."
     );

@@ -1,8 +1,10 @@
 //! What the tests and the benchmarks ask of an implementation: every call, with its bare answer.
 
-use crate::{Head, Movement, Opened, Ran, Reading, Reported, Transfer, Transferred};
+use crate::{
+    Head, Lift, Movement, Opened, Ran, Reading, Reported, Tip, Tipped, Transfer, Transferred,
+};
 
-/// An implementation of document 01's calls. Answers and lent memory are compared number by number.
+/// An implementation of the documents' calls. Answers and lent memory are compared number by number.
 pub trait Engine: Sync {
     /// The word for it in the tests' and benchmarks' output.
     fn label(&self) -> &'static str;
@@ -12,6 +14,12 @@ pub trait Engine: Sync {
 
     /// Transfers weight from one vessel to another.
     fn transfer(&self, head: Head, table: &mut [u32], transfer: Transfer) -> Transferred;
+
+    /// Lifts weight from a vessel onto the scale.
+    fn lift(&self, head: Head, table: &mut [u32], lift: Lift) -> Transferred;
+
+    /// Tips all that is on the scale into a vessel.
+    fn tip(&self, head: Head, table: &mut [u32], tip: Tip) -> Tipped;
 
     /// The weight by origin in a vessel.
     fn held(&self, head: Head, table: &[u32], vessel: u32, report: &mut [u32]) -> Reported;

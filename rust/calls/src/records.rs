@@ -1,7 +1,10 @@
-//! The records that go into a call and come out of it.
+//! The head of a book, its pieces, and the answers of the calls.
 
 /// The most vessels of a book.
 pub const VESSELS: usize = 64;
+
+/// The holder number of the scale: the least that no vessel has.
+pub const SCALE: u32 = 64;
 
 /// A table never counts more places than this.
 pub const PLACES: usize = 4096;
@@ -34,12 +37,14 @@ pub struct Head {
     pub vessels: u32,
     /// How many pieces lie in the table.
     pub pieces: u32,
-    /// The minute of the last accepted transfer.
+    /// The minute of the last accepted transfer, lift or tip.
     pub last: u32,
-    /// How many transfers were accepted.
+    /// How many transfers and lifts were accepted.
     pub accepted: u32,
     /// The weight in each vessel; 0 from `vessels` on.
     pub balances: [u32; VESSELS],
+    /// The weight on the scale.
+    pub scale: u32,
 }
 
 impl Head {
@@ -51,6 +56,7 @@ impl Head {
         last: 0,
         accepted: 0,
         balances: [0; VESSELS],
+        scale: 0,
     };
 }
 
@@ -59,14 +65,14 @@ pub fn places(table: &[u32]) -> usize {
     (table.len() / 4).min(PLACES)
 }
 
-/// Weight of one origin and birth minute, in one vessel: four numbers of the table.
+/// Weight of one origin and birth minute, in one vessel or on the scale: four numbers of the table.
 #[derive(Clone, Copy, Debug, PartialEq, Eq)]
 pub struct Piece {
-    /// The vessel it lies in.
+    /// The vessel it lies in, or [`SCALE`].
     pub holder: u32,
     /// The vessel where it was born.
     pub origin: u32,
-    /// The minute when it was born: that of the transfer it was born in, less the age.
+    /// The minute when it was born: that of the transfer or lift it was born in, less the age.
     pub birth: u32,
     /// Its weight in grams.
     pub weight: u32,
@@ -90,51 +96,6 @@ impl Piece {
     }
 }
 
-/// What a transfer is asked to do: weight from source to destination, at a minute. What is born was
-/// milled `age` minutes before: its birth minute is `minute - age`.
-#[derive(Clone, Copy, Debug, PartialEq, Eq)]
-pub struct Transfer {
-    /// The vessel that gives.
-    pub source: u32,
-    /// The vessel that receives.
-    pub destination: u32,
-    /// The minute.
-    pub minute: u32,
-    /// The weight in grams.
-    pub weight: u32,
-    /// How many minutes before the transfer was milled what is born in it.
-    pub age: u16,
-}
-
-impl Transfer {
-    /// The transfer of four numbers in the order of document 01: s, d, t, q. Its age is 0.
-    pub const fn new([source, destination, minute, weight]: [u32; 4]) -> Transfer {
-        Transfer {
-            source,
-            destination,
-            minute,
-            weight,
-            age: 0,
-        }
-    }
-
-    /// The same transfer with this age.
-    pub const fn aged(self, age: u16) -> Transfer {
-        Transfer { age, ..self }
-    }
-
-    /// The five numbers that a sheet is written from: s, d, t, q, age.
-    pub fn numbers(&self) -> [u32; MOVEMENT_NUMBERS] {
-        [
-            self.source,
-            self.destination,
-            self.minute,
-            self.weight,
-            self.age.into(),
-        ]
-    }
-}
-
 /// The answer of an opening.
 #[repr(C)]
 #[derive(Clone, Copy, Debug, PartialEq, Eq)]
@@ -145,7 +106,7 @@ pub struct Opened {
     pub head: Head,
 }
 
-/// The answer of a transfer.
+/// The answer of a transfer and of a lift.
 #[repr(C)]
 #[derive(Clone, Copy, Debug, PartialEq, Eq)]
 pub struct Transferred {
@@ -162,10 +123,20 @@ pub struct Transferred {
 }
 
 impl Transferred {
-    /// Whether the transfer was accepted without split or birth.
+    /// Whether it was accepted without split or birth.
     pub fn even(&self) -> bool {
         self.number == 0 && self.split == 0 && self.born == 0
     }
+}
+
+/// The answer of a tip.
+#[repr(C)]
+#[derive(Clone, Copy, Debug, PartialEq, Eq)]
+pub struct Tipped {
+    /// 0 or the refusal.
+    pub number: u32,
+    /// The next head, or the one given.
+    pub head: Head,
 }
 
 /// The answer of a report.
@@ -234,14 +205,16 @@ mod tests {
     #[test]
     fn records_have_no_gaps() {
         let numbers = [
-            (size_of::<Head>(), 5 + VESSELS),
-            (size_of::<Opened>(), 6 + VESSELS),
-            (size_of::<Transferred>(), 9 + VESSELS),
-            (size_of::<Reported>(), 6 + VESSELS),
+            (size_of::<Head>(), 6 + VESSELS),
+            (offset_of!(Head, scale), 5 + VESSELS),
+            (size_of::<Opened>(), 7 + VESSELS),
+            (size_of::<Transferred>(), 10 + VESSELS),
+            (size_of::<Tipped>(), 7 + VESSELS),
+            (size_of::<Reported>(), 7 + VESSELS),
             (size_of::<Reading>(), 4),
             (offset_of!(Movement, age), 5),
             (size_of::<Movement>(), 6),
-            (size_of::<Ran>(), 8 + VESSELS),
+            (size_of::<Ran>(), 9 + VESSELS),
         ];
         for (size, count) in numbers {
             assert_eq!(size, 4 * count);

@@ -1,4 +1,4 @@
-//! The refusals of document 01, "Numbers and their words", and that of document 02's ages.
+//! The refusals of document 01, "Numbers and their words", and those of document 02's ages and scale.
 
 use core::error::Error;
 use core::fmt;
@@ -25,7 +25,7 @@ pub enum Refusal {
     ClockBack = 8,
     /// The destination's balance would pass 4,294,967,295.
     Overfull = 9,
-    /// 4,294,967,295 transfers were accepted already.
+    /// 4,294,967,295 transfers and lifts were accepted already.
     TallyFull = 10,
     /// A split or birth is due and no place is free.
     TableFull = 11,
@@ -49,11 +49,15 @@ pub enum Refusal {
     PastEnd = 20,
     /// The age is above the minute.
     BeforeTime = 21,
+    /// There is weight on the scale.
+    ScaleLoaded = 22,
+    /// There is no weight on the scale.
+    ScaleBare = 23,
 }
 
 impl Refusal {
     /// Every refusal, in the order of its number.
-    pub const ALL: [Refusal; 21] = [
+    pub const ALL: [Refusal; 23] = [
         Refusal::TableShort,
         Refusal::RuleUnknown,
         Refusal::VesselCount,
@@ -75,6 +79,8 @@ impl Refusal {
         Refusal::OutputShort,
         Refusal::PastEnd,
         Refusal::BeforeTime,
+        Refusal::ScaleLoaded,
+        Refusal::ScaleBare,
     ];
 
     /// The refusal of a number; none for 0 and for a number that no call gives.
@@ -111,6 +117,8 @@ impl Refusal {
             Refusal::OutputShort => "short paper",
             Refusal::PastEnd => "past the end",
             Refusal::BeforeTime => "milled before time",
+            Refusal::ScaleLoaded => "scale loaded",
+            Refusal::ScaleBare => "scale bare",
         }
     }
 }
@@ -128,12 +136,12 @@ mod tests {
     use super::Refusal;
 
     #[test]
-    fn numbers_run_from_1_to_21() {
+    fn numbers_run_from_1_to_23() {
         for (i, refusal) in Refusal::ALL.into_iter().enumerate() {
             assert_eq!(refusal.number(), i as u32 + 1);
             assert_eq!(Refusal::of(refusal.number()), Some(refusal));
         }
         assert_eq!(Refusal::of(0), None);
-        assert_eq!(Refusal::of(22), None);
+        assert_eq!(Refusal::of(24), None);
     }
 }

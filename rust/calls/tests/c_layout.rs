@@ -1,6 +1,6 @@
 //! The records lie in C, by the header, as they lie here.
 
-use calls::{Head, Movement, Opened, Ran, Reading, Reported, Transferred};
+use calls::{Head, Movement, Opened, Ran, Reading, Reported, Tipped, Transferred};
 use std::io::Write;
 use std::mem::{offset_of, size_of};
 use std::path::Path;
@@ -15,11 +15,14 @@ const PROGRAM: &str = r#"
 int main(void) {
     SIZE(lumchaki_head);
     FIELD(lumchaki_head, balances);
+    FIELD(lumchaki_head, scale);
     SIZE(lumchaki_opened);
     FIELD(lumchaki_opened, head);
     SIZE(lumchaki_transferred);
     FIELD(lumchaki_transferred, head);
     FIELD(lumchaki_transferred, born);
+    SIZE(lumchaki_tipped);
+    FIELD(lumchaki_tipped, head);
     SIZE(lumchaki_reported);
     FIELD(lumchaki_reported, head);
     SIZE(lumchaki_reading);
@@ -56,11 +59,14 @@ fn records_lie_as_in_c() {
     let here = [
         ("lumchaki_head", size_of::<Head>()),
         ("balances", offset_of!(Head, balances)),
+        ("scale", offset_of!(Head, scale)),
         ("lumchaki_opened", size_of::<Opened>()),
         ("head", offset_of!(Opened, head)),
         ("lumchaki_transferred", size_of::<Transferred>()),
         ("head", offset_of!(Transferred, head)),
         ("born", offset_of!(Transferred, born)),
+        ("lumchaki_tipped", size_of::<Tipped>()),
+        ("head", offset_of!(Tipped, head)),
         ("lumchaki_reported", size_of::<Reported>()),
         ("head", offset_of!(Reported, head)),
         ("lumchaki_reading", size_of::<Reading>()),

@@ -1,19 +1,20 @@
-//! What the ages of transfers came to, so that a test can say what it covered.
+//! What the ages of transfers and lifts came to, so that a test can say what it covered.
 
 use calls::{Head, Piece, Refusal, Transfer, Transferred};
 use std::collections::BTreeMap;
 
-/// The refusals of a transfer before 21.
-const BEFORE_21: [Refusal; 6] = [
+/// The refusals of a transfer or lift before 21.
+const BEFORE_21: [Refusal; 7] = [
     Refusal::TableShort,
     Refusal::BookOff,
+    Refusal::ScaleLoaded,
     Refusal::NoVessel,
     Refusal::SameVessel,
     Refusal::NoWeight,
     Refusal::ClockBack,
 ];
 
-/// Counts of transfers by their ages.
+/// Counts of transfers, or of lifts, by their ages. A lift is counted as the transfer to the scale.
 #[derive(Clone, Debug, Default)]
 pub struct Ages {
     /// The age is above the minute: how often, by the number that the transfer gives at age 0.
@@ -29,6 +30,7 @@ pub struct Ages {
     /// Births under rules 2 and 3 before those of all pieces in the table.
     pub earliest: u64,
     /// Births under rules 2 and 3 at that of a piece in the same vessel, received at an earlier minute.
+    /// The scale has no piece before a lift.
     pub equal: u64,
     /// Picks under rules 2 and 3 from pieces whose births do not go up in order of receipt.
     pub behind: u64,
@@ -81,9 +83,15 @@ impl Ages {
         }
     }
 
-    /// Fails unless each count is so high; ages above the minute were met by transfers that give each
-    /// of these numbers at age 0.
+    /// Fails unless each count of transfers is so high; ages above the minute were met by transfers that
+    /// give each of these numbers at age 0.
     pub fn expect(&self, above: &[u32], at_least: u64) {
+        self.expect_of_lifts(above, at_least);
+        assert!(self.equal >= at_least, "{self:?}");
+    }
+
+    /// The same of lifts, which find no piece on the scale.
+    pub fn expect_of_lifts(&self, above: &[u32], at_least: u64) {
         for number in above {
             let count = self.above.get(number).copied().unwrap_or(0);
             assert!(count >= at_least, "above, {number} {count} times: {self:?}");
@@ -94,7 +102,6 @@ impl Ages {
             self.at_minute,
             self.largest,
             self.earliest,
-            self.equal,
             self.behind,
         ];
         assert!(counts.iter().all(|&c| c >= at_least), "{self:?}");

@@ -1,7 +1,9 @@
-//! Compares implementations of document 01 call by call: answers, lent memory, and what lies
+//! Compares implementations of the documents call by call: answers, lent memory, and what lies
 //! around it. The tests are in `tests/`; here is what they share.
 
 mod ages;
+mod books;
+mod foul;
 #[cfg(feature = "library")]
 mod library;
 mod make;
@@ -11,11 +13,11 @@ mod sheets;
 mod tally;
 
 pub use ages::Ages;
+pub use books::{book, loaded_book, room};
+pub use foul::{foul_book, FOUL_CLAUSES};
 #[cfg(feature = "library")]
 pub use library::Library;
-pub use make::{
-    book, call_list, foul_book, near, report_room, room, transfer_for, Call, FOUL_CLAUSES,
-};
+pub use make::{call_list, lift_for, near, report_room, tip_for, transfer_for, Call};
 pub use pair::Pair;
 pub use random::Random;
 pub use sheets::{aged_day, damage, heaviest, names, sheet, working_day};

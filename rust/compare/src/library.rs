@@ -1,6 +1,9 @@
 //! The proved library behind the calls.
 
-use calls::{Engine, Head, Movement, Opened, Ran, Reading, Reported, Transfer, Transferred};
+use calls::{
+    Engine, Head, Lift, Movement, Opened, Ran, Reading, Reported, Tip, Tipped, Transfer,
+    Transferred,
+};
 use lumchaki::raw;
 
 /// The proved library.
@@ -17,6 +20,14 @@ impl Engine for Library {
 
     fn transfer(&self, head: Head, table: &mut [u32], transfer: Transfer) -> Transferred {
         raw::transfer(head, table, transfer)
+    }
+
+    fn lift(&self, head: Head, table: &mut [u32], lift: Lift) -> Transferred {
+        raw::lift(head, table, lift)
+    }
+
+    fn tip(&self, head: Head, table: &mut [u32], tip: Tip) -> Tipped {
+        raw::tip(head, table, tip)
     }
 
     fn held(&self, head: Head, table: &[u32], vessel: u32, report: &mut [u32]) -> Reported {

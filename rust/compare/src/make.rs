@@ -1,7 +1,7 @@
-//! Books and calls to compare on.
+//! Calls to compare on.
 
 use crate::Random;
-use calls::{places, Head, Piece, Transfer, TOP, VESSELS};
+use calls::{Head, Lift, Piece, Tip, Transfer, SCALE, TOP};
 use second::WeighBook;
 
 /// A call on an open book.
@@ -9,6 +9,10 @@ use second::WeighBook;
 pub enum Call {
     /// A transfer.
     Move(Transfer),
+    /// A lift.
+    Lift(Lift),
+    /// A tip.
+    Tip(Tip),
     /// A held report: vessel, room.
     Held(u32, usize),
     /// A spread report: origin, span, room.
@@ -47,7 +51,7 @@ fn minute(random: &mut Random, last: u32) -> u32 {
     }
 }
 
-/// An age for a transfer at a minute: mostly 0 or small. Else it makes the birth one of these earlier
+/// An age for a transfer or lift at a minute: mostly 0 or small. Else it makes the birth one of these earlier
 /// ones or its neighbour, or puts it before all of them, at minute 0 or just before that; or it is the
 /// largest, or any.
 fn age(random: &mut Random, minute: u32, births: impl Iterator<Item = u32>) -> u16 {
@@ -68,11 +72,6 @@ fn age(random: &mut Random, minute: u32, births: impl Iterator<Item = u32>) -> u
     age.try_into().unwrap_or(u16::MAX)
 }
 
-/// Numbers to be overwritten: not zeros, so that what remains can be told.
-pub fn room(random: &mut Random, length: usize) -> Vec<u32> {
-    (0..length).map(|_| random.any()).collect()
-}
-
 /// A length for a report of so many numbers: mostly enough, now and then short.
 pub fn report_room(random: &mut Random, numbers: u32) -> usize {
     let numbers = numbers as usize;
@@ -82,134 +81,6 @@ pub fn report_room(random: &mut Random, numbers: u32) -> usize {
         2 => numbers + random.index(9),
         _ => numbers,
     }
-}
-
-/// A book that adds up, on a table of this length. Its pieces are not what a run would leave: births
-/// lie in any order and with many ties, weights may be small or reach up to TOP.
-pub fn book(random: &mut Random, rule: u32, length: usize) -> (Head, Vec<u32>) {
-    let mut table = room(random, length);
-    let places = places(&table) as u32;
-    let mut head = Head {
-        rule,
-        vessels: random.one_of(&[1, 2, 2, 2, 3, 3, 3, 4, 4, 7, 63, 64]),
-        last: random.one_of(&[0, 3, 1000, 65_534, 65_535, TOP - 1, TOP]),
-        ..Head::ZERO
-    };
-    let some = random.below(places + 1);
-    let count = random.one_of(&[places, places.saturating_sub(1), some]);
-    let heavy = random.once_in(4);
-    // The most that a birth lies before the last minute: ages give any.
-    let oldest = random.one_of(&[3, 3, 3, 100_000]).min(head.last);
-    for place in table.chunks_exact_mut(4).take(count as usize) {
-        let holder = random.below(head.vessels);
-        let balance = &mut head.balances[holder as usize];
-        let free = TOP - *balance;
-        if free == 0 {
-            break;
-        }
-        let piece = Piece {
-            holder,
-            origin: random.below(head.vessels),
-            birth: head.last - random.below(oldest + 1),
-            weight: random.from_to(1, if heavy { free } else { free.min(9) }),
-        };
-        *balance += piece.weight;
-        place.copy_from_slice(&piece.numbers());
-        head.pieces += 1;
-    }
-    head.accepted = match random.below(20) {
-        0 => TOP,
-        1 => TOP - 1,
-        2..=9 => head.pieces,
-        _ => head.pieces + random.below(1000),
-    };
-    (head, table)
-}
-
-/// The clauses of "adds up", each with a way to break it alone.
-pub const FOUL_CLAUSES: [&str; 14] = [
-    "rule",
-    "no vessels",
-    "too many vessels",
-    "pieces above places",
-    "pieces above accepted",
-    "holder",
-    "holder that marks a gone piece",
-    "origin",
-    "birth",
-    "weight 0",
-    "balance one more",
-    "balance one less",
-    "balance wrapped",
-    "balance beyond the vessels",
-];
-
-/// Breaks one clause of a book that adds up and leaves the others as they are. False where this
-/// book has no way to break it.
-pub fn foul_book(random: &mut Random, clause: &str, head: &mut Head, table: &mut [u32]) -> bool {
-    let count = head.pieces as usize;
-    let vessels = head.vessels;
-    let at = 4 * if count > 0 { random.index(count) } else { 0 };
-    match clause {
-        "rule" => head.rule = near(random, &[4]).max(4),
-        "no vessels" => {
-            // A book without pieces: nothing else is off.
-            *head = Head {
-                rule: head.rule,
-                accepted: head.accepted,
-                ..Head::ZERO
-            };
-        }
-        "too many vessels" => head.vessels = near(random, &[65, 128]).max(65),
-        "pieces above places" => {
-            head.pieces = places(table) as u32 + random.one_of(&[1, 1, 2, 4096]);
-            head.accepted = TOP;
-        }
-        "pieces above accepted" if count > 0 => {
-            head.accepted = random.one_of(&[0, head.pieces - 1]);
-        }
-        "holder" | "holder that marks a gone piece" if count > 0 => {
-            head.balances[table[at] as usize] -= table[at + 3];
-            let stranger = near(random, &[vessels, 64]).max(vessels);
-            table[at] = if clause == "holder" { stranger } else { TOP };
-        }
-        "origin" if count > 0 => table[at + 1] = near(random, &[vessels, 64, TOP]).max(vessels),
-        "birth" if count > 0 && head.last < TOP => {
-            table[at + 2] = random.one_of(&[head.last + 1, TOP]);
-        }
-        "weight 0" if count > 0 => {
-            head.balances[table[at] as usize] -= table[at + 3];
-            table[at + 3] = 0;
-        }
-        "balance one more" => {
-            let balance = &mut head.balances[random.below(vessels) as usize];
-            *balance = balance.wrapping_add(1);
-        }
-        "balance one less" => {
-            let balance = &mut head.balances[random.below(vessels) as usize];
-            *balance = balance.wrapping_sub(1);
-        }
-        "balance wrapped" => {
-            // Two pieces of one vessel get 2^32 more between them: in 32 bits the sum is the same.
-            let same = |i: usize| 4 * i != at && table[4 * i] == table[at];
-            let Some(other) = (0..count).find(|&i| same(i)) else {
-                return false;
-            };
-            let (one, two) = (table[at + 3], table[4 * other + 3]);
-            if u64::from(one) + u64::from(two) + 1 > u64::from(TOP) {
-                return false;
-            }
-            let more = random.from_to(two + 1, TOP - one);
-            table[at + 3] = one + more;
-            table[4 * other + 3] = two.wrapping_sub(more);
-        }
-        "balance beyond the vessels" if vessels < VESSELS as u32 => {
-            let beyond = random.from_to(vessels, VESSELS as u32 - 1);
-            head.balances[beyond as usize] = random.any().max(1);
-        }
-        _ => return false,
-    }
-    true
 }
 
 /// A transfer for a book, aimed at what decides: exact weights, limits, the last minute, births.
@@ -254,6 +125,30 @@ pub fn transfer_for(random: &mut Random, head: &Head, table: &[u32]) -> Transfer
     }
 }
 
+/// A lift for a book, aimed as a transfer is; now and then from a vessel that the book does not have.
+pub fn lift_for(random: &mut Random, head: &Head, table: &[u32]) -> Lift {
+    let mut lift = transfer_for(random, head, table).lift();
+    if random.once_in(20) {
+        lift.source = near(random, &[head.vessels, SCALE]);
+    }
+    lift
+}
+
+/// A tip for a book: into any vessel, now and then into one that holds the most.
+pub fn tip_for(random: &mut Random, head: &Head) -> Tip {
+    let mut destination = vessel(random, head.vessels);
+    if random.once_in(6) {
+        let heaviest = (0..)
+            .zip(&head.balances)
+            .max_by_key(|(_, &balance)| balance);
+        destination = heaviest.map_or(0, |(vessel, _)| vessel);
+    }
+    Tip {
+        destination,
+        minute: minute(random, head.last),
+    }
+}
+
 /// A transfer aimed at what a weigh book shows, without any piece.
 pub(crate) fn weighed_transfer(random: &mut Random, book: &WeighBook) -> Transfer {
     let vessels = book.weights.len() as u32;
@@ -280,18 +175,43 @@ pub(crate) fn weighed_transfer(random: &mut Random, book: &WeighBook) -> Transfe
     }
 }
 
-/// A list of calls for a book of so many vessels. It is made without regard to a rule.
+/// A tip aimed at what a weigh book shows: mostly into any vessel, now and then into one that has the
+/// most.
+fn weighed_tip(random: &mut Random, book: &WeighBook) -> Tip {
+    let mut destination = vessel(random, book.weights.len() as u32);
+    if random.once_in(8) {
+        let heaviest = (0..).zip(&book.weights).max_by_key(|(_, &weight)| weight);
+        destination = heaviest.map_or(0, |(vessel, _)| vessel);
+    }
+    Tip {
+        destination,
+        minute: minute(random, book.last),
+    }
+}
+
+/// A list of calls for a book of so many vessels. It is made without regard to a rule. A lift is mostly
+/// tipped soon, so that few of the other calls meet a loaded scale.
 pub fn call_list(random: &mut Random, vessels: u32, length: usize) -> Vec<Call> {
     let mut book = WeighBook::new(vessels);
-    let mut call = || match random.below(10) {
-        0 => Call::Held(vessel(random, vessels), report_room(random, vessels)),
-        1 => {
+    let mut call = || match random.below(20) {
+        0 | 1 => Call::Held(vessel(random, vessels), report_room(random, vessels)),
+        2 | 3 => {
             let span = (near(random, &[0, book.last]), near(random, &[book.last]));
             Call::Spread(vessel(random, vessels), span, report_room(random, vessels))
         }
-        2 => Call::Whole(report_room(random, vessels * vessels)),
-        _ => {
+        4 | 5 => Call::Whole(report_room(random, vessels * vessels)),
+        kind => {
+            let loaded = book.scale > 0 && !random.once_in(5);
+            if loaded || kind == 6 {
+                let tip = weighed_tip(random, &book);
+                book.feed_tip(tip);
+                return Call::Tip(tip);
+            }
             let transfer = weighed_transfer(random, &book);
+            if kind <= 10 {
+                book.feed_lift(transfer.lift());
+                return Call::Lift(transfer.lift());
+            }
             book.feed(transfer);
             Call::Move(transfer)
         }

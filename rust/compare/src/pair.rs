@@ -1,10 +1,10 @@
-//! Two implementations side by side.
+//! Two implementations side by side: the calls on a book.
+
+mod scale;
+mod sheets;
 
 use crate::{Ages, Tally};
-use calls::{
-    places, Engine, Head, Movement, Opened, Ran, Reading, Reported, Transfer, Transferred,
-    MOVEMENT_BYTES, MOVEMENT_NUMBERS, SHEET_HEADER,
-};
+use calls::{places, Engine, Head, Opened, Reported, Transfer, Transferred};
 use second::Second;
 use std::fmt::Debug;
 
@@ -29,6 +29,35 @@ where
     answer
 }
 
+/// The answer of a transfer or lift at age 0, beside the one at its own age: they come to the same, but
+/// for 21 and the birth of what is born.
+fn beside_young(
+    before: &[u32],
+    table: &[u32],
+    t: Transfer,
+    answer: &Transferred,
+    call: Moving,
+) -> Transferred {
+    if t.age == 0 {
+        return *answer;
+    }
+    let mut young_table = before.to_vec();
+    let young = call(&Second, &mut young_table, t.aged(0));
+    assert_eq!(answer.number, Ages::number(t, young.number), "{t:?}");
+    if answer.number != 0 {
+        return young;
+    }
+    assert_eq!(*answer, young, "{t:?}");
+    if answer.born > 0 {
+        // What is born is the last piece.
+        let birth = &mut young_table[4 * answer.head.pieces as usize - 2];
+        assert_eq!(*birth, t.minute);
+        *birth -= u32::from(t.age);
+    }
+    assert_eq!(table, young_table, "{t:?}");
+    young
+}
+
 /// A subject and the second implementation. Each method makes the call on both, fails where answer
 /// or memory differ, and gives the subject's answer.
 pub struct Pair {
@@ -37,7 +66,12 @@ pub struct Pair {
     pub tally: Tally,
     /// What the ages of its transfers came to.
     pub ages: Ages,
+    /// What the ages of its lifts came to.
+    pub lift_ages: Ages,
 }
+
+/// A transfer or a lift by an engine on a table.
+type Moving<'c> = &'c dyn Fn(&dyn Engine, &mut [u32], Transfer) -> Transferred;
 
 impl Pair {
     /// The subject beside the second implementation.
@@ -46,6 +80,7 @@ impl Pair {
             subject,
             tally: Tally::default(),
             ages: Ages::default(),
+            lift_ages: Ages::default(),
         }
     }
 
@@ -71,18 +106,30 @@ impl Pair {
         answer
     }
 
-    /// A transfer. Beside the comparison: a refusal changes nothing, and nothing is written behind
-    /// the last piece.
+    /// A transfer.
     pub fn transfer(&mut self, head: Head, table: &mut [u32], t: Transfer) -> Transferred {
+        self.moving("transfer", head, table, t, &|engine, table, t| {
+            engine.transfer(head, table, t)
+        })
+    }
+
+    /// A transfer or a lift, by the call that makes it. Beside the comparison: a refusal changes nothing,
+    /// and nothing is written behind the last piece.
+    fn moving(
+        &mut self,
+        name: &'static str,
+        head: Head,
+        table: &mut [u32],
+        t: Transfer,
+        call: Moving,
+    ) -> Transferred {
         let before = table.to_vec();
-        let answer = guarded(table, 0xdead_beef, |table| {
-            self.subject.transfer(head, table, t)
-        });
+        let answer = guarded(table, 0xdead_beef, |table| call(self.subject, table, t));
         let mut expected_table = before.clone();
-        let expected = Second.transfer(head, &mut expected_table, t);
+        let expected = call(&Second, &mut expected_table, t);
         let told = (head, t, places(table));
-        self.same("transfer", &told, answer, expected);
-        self.same("transfer's table", &told, &*table, &expected_table);
+        self.same(name, &told, answer, expected);
+        self.same(name, &told, &*table, &expected_table);
         if answer.number == 0 {
             let behind = 4 * answer.head.pieces as usize;
             assert_eq!(table[behind..], before[behind..], "behind the last piece");
@@ -90,38 +137,14 @@ impl Pair {
             assert_eq!((answer.head, &*table), (head, &before[..]), "refused");
             assert_eq!([answer.whole, answer.split, answer.born], [0; 3]);
         }
-        self.beside_young((head, &before), table, t, &answer);
-        self.tally.add("transfer", answer.number);
-        answer
-    }
-
-    /// A transfer beside the same one at age 0: they come to the same, but for 21 and the birth of
-    /// what is born.
-    fn beside_young(
-        &mut self,
-        (head, before): (Head, &[u32]),
-        table: &[u32],
-        t: Transfer,
-        answer: &Transferred,
-    ) {
-        let mut young_table = before.to_vec();
-        let young = match t.age {
-            0 => *answer,
-            _ => Second.transfer(head, &mut young_table, t.aged(0)),
+        let young = beside_young(&before, table, t, &answer, call);
+        let ages = match name {
+            "lift" => &mut self.lift_ages,
+            _ => &mut self.ages,
         };
-        self.ages.add((&head, before), t, answer, &young);
-        assert_eq!(answer.number, Ages::number(t, young.number), "{t:?}");
-        if t.age == 0 || answer.number != 0 {
-            return;
-        }
-        assert_eq!(*answer, young, "{t:?}");
-        if answer.born > 0 {
-            // What is born is the last piece.
-            let birth = &mut young_table[4 * answer.head.pieces as usize - 2];
-            assert_eq!(*birth, t.minute);
-            *birth -= u32::from(t.age);
-        }
-        assert_eq!(table, young_table, "{t:?}");
+        ages.add((&head, &before), t, &answer, &young);
+        self.tally.add(name, answer.number);
+        answer
     }
 
     /// A report, by the call that makes it. The table stays, a refusal writes nothing, and the
@@ -181,89 +204,5 @@ impl Pair {
         self.report("whole", numbers, (head, table), room, &|engine, room| {
             engine.whole(head, table, room)
         })
-    }
-
-    /// Reading a sheet.
-    pub fn read(&mut self, sheet: &[u8]) -> Reading {
-        let before = sheet.to_vec();
-        let answer = self.subject.read(sheet);
-        self.same("read", &before, answer, Second.read(sheet));
-        assert_eq!(sheet, before, "read leaves the sheet");
-        self.tally.add("read", answer.number);
-        answer
-    }
-
-    /// Asking for a movement.
-    pub fn movement(&mut self, sheet: &[u8], index: u32) -> Movement {
-        let answer = self.subject.movement(sheet, index);
-        let expected = Second.movement(sheet, index);
-        self.same("movement", &(sheet, index), answer, expected);
-        self.tally.add("movement", answer.number);
-        answer
-    }
-
-    /// Asking for a name, and the number of that. The name is compared by where it lies too.
-    pub fn name<'s>(&mut self, sheet: &'s [u8], vessel: u32) -> (u32, &'s [u8]) {
-        let place = |name: &[u8]| (name.as_ptr() as usize - sheet.as_ptr() as usize, name.len());
-        let (answer, expected) = (self.subject.name(sheet, vessel), Second.name(sheet, vessel));
-        self.same("name", &(sheet, vessel), place(answer), place(expected));
-        let number = self.subject.name_number(sheet, vessel);
-        let expected = Second.name_number(sheet, vessel);
-        self.same("name_number", &(sheet, vessel), number, expected);
-        self.tally.add("name", number);
-        (number, answer)
-    }
-
-    /// Writing a sheet. A refusal writes nothing, and the bytes behind the sheet remain.
-    pub fn write(
-        &mut self,
-        (rule, vessels): (u32, u32),
-        names: &[u8],
-        numbers: &[u32],
-        out: &mut [u8],
-    ) -> u32 {
-        let before = out.to_vec();
-        let answer = guarded(out, 0xa5, |out| {
-            self.subject.write(rule, vessels, names, numbers, out)
-        });
-        let mut expected_out = before.clone();
-        let expected = Second.write(rule, vessels, names, numbers, &mut expected_out);
-        let told = (rule, vessels, names, numbers);
-        self.same("write", &told, answer, expected);
-        self.same("write's bytes", &told, &*out, &expected_out);
-        let written = if answer == 0 {
-            SHEET_HEADER + names.len() + MOVEMENT_BYTES * (numbers.len() / MOVEMENT_NUMBERS)
-        } else {
-            0
-        };
-        assert_eq!(out[written..], before[written..], "behind the sheet");
-        self.tally.add("write", answer);
-        answer
-    }
-
-    /// Running a sheet. Nothing is written behind the most pieces there can have been. A run that
-    /// the sheet or a short table refuses gives zeros and writes nothing.
-    pub fn run(&mut self, sheet: &[u8], table: &mut [u32]) -> Ran {
-        let before = table.to_vec();
-        let answer = guarded(table, 0xdead_beef, |table| self.subject.run(sheet, table));
-        let mut expected_table = before.clone();
-        let expected = Second.run(sheet, &mut expected_table);
-        self.same("run", &sheet, answer, expected);
-        self.same("run's table", &sheet, &*table, &expected_table);
-        let checks = [Second.read(sheet).number, u32::from(table.len() < 4)];
-        if let Some(number) = checks.into_iter().find(|&number| number != 0) {
-            let zeros = Ran {
-                number,
-                index: 0,
-                even: 0,
-                head: Head::ZERO,
-            };
-            assert_eq!((answer, &*table), (zeros, &before[..]), "refused");
-        }
-        // Pieces never get fewer, so the last piece of the run is the last there ever was.
-        let behind = 4 * answer.head.pieces as usize;
-        assert_eq!(table[behind..], before[behind..], "behind the last piece");
-        self.tally.add("run", answer.number);
-        answer
     }
 }

@@ -1,10 +1,10 @@
-//! The book: opening, transfer, reports.
+//! The book: opening, transfer, lift and tip, reports.
 
 use crate::{accept, raw};
-use calls::{Head, Refusal, Transfer};
+use calls::{Head, Lift, Refusal, Tip, Transfer, Transferred};
 use std::ops::RangeInclusive;
 
-/// What an accepted transfer did.
+/// What an accepted transfer or lift did.
 #[derive(Clone, Copy, Debug, PartialEq, Eq)]
 pub struct Moved {
     /// How many pieces moved whole.
@@ -13,6 +13,17 @@ pub struct Moved {
     pub split: u32,
     /// The weight that the source lacked, born there.
     pub born: u32,
+}
+
+/// The head after a transfer or a lift, and what it did; a refusal leaves the head.
+fn moved(head: &mut Head, answer: Transferred) -> Result<Moved, Refusal> {
+    accept(answer.number)?;
+    *head = answer.head;
+    Ok(Moved {
+        whole: answer.whole,
+        split: answer.split,
+        born: answer.born,
+    })
 }
 
 /// Opens a book under a rule, for 1 to 64 vessels.
@@ -30,22 +41,40 @@ pub fn open(rule: u32, vessels: u32) -> Result<Head, Refusal> {
 /// table as they are.
 ///
 /// # Errors
-/// The refusals 1, 4, 5 to 8, 21 and 9 to 11, the first that applies in this order.
+/// The refusals 1, 4, 22, 5 to 8, 21 and 9 to 11, the first that applies in this order.
 pub fn transfer(head: &mut Head, table: &mut [u32], transfer: Transfer) -> Result<Moved, Refusal> {
     let answer = raw::transfer(*head, table, transfer);
+    moved(head, answer)
+}
+
+/// Lifts weight from a vessel onto the scale: the first half of a transfer, which counts as one. What the
+/// source lacks is born there, as in a transfer. Until the scale is tipped no other transfer, lift or
+/// report is accepted. A refused lift leaves head and table as they are.
+///
+/// # Errors
+/// The refusals 1, 4, 22, 5, 7, 8, 21, 10 and 11, the first that applies in this order.
+pub fn lift(head: &mut Head, table: &mut [u32], lift: Lift) -> Result<Moved, Refusal> {
+    let answer = raw::lift(*head, table, lift);
+    moved(head, answer)
+}
+
+/// Tips all that is on the scale into a vessel, which may be the one that it was lifted from: the second
+/// half of a transfer, which does not count. A refused tip leaves head and table as they are, and the
+/// scale loaded.
+///
+/// # Errors
+/// The refusals 1, 4, 23, 5, 8 and 9, the first that applies in this order.
+pub fn tip(head: &mut Head, table: &mut [u32], tip: Tip) -> Result<(), Refusal> {
+    let answer = raw::tip(*head, table, tip);
     accept(answer.number)?;
     *head = answer.head;
-    Ok(Moved {
-        whole: answer.whole,
-        split: answer.split,
-        born: answer.born,
-    })
+    Ok(())
 }
 
 /// The weight by origin in a vessel: the part of `report` that was written.
 ///
 /// # Errors
-/// The refusals 1, 4, 5 and 13, the first that applies.
+/// The refusals 1, 4, 22, 5 and 13, the first that applies in this order.
 pub fn held<'r>(
     head: &Head,
     table: &[u32],
@@ -60,7 +89,7 @@ pub fn held<'r>(
 /// that was written.
 ///
 /// # Errors
-/// The refusals 1, 4, 5, 12 and 13, the first that applies.
+/// The refusals 1, 4, 22, 5, 12 and 13, the first that applies in this order.
 pub fn spread<'r>(
     head: &Head,
     table: &[u32],
@@ -75,7 +104,7 @@ pub fn spread<'r>(
 /// The held report of every vessel, one row behind the other: the part of `report` that was written.
 ///
 /// # Errors
-/// The refusals 1, 4 and 13, the first that applies.
+/// The refusals 1, 4, 22 and 13, the first that applies in this order.
 pub fn whole<'r>(head: &Head, table: &[u32], report: &'r mut [u32]) -> Result<&'r [u32], Refusal> {
     accept(raw::whole(*head, table, report).number)?;
     let vessels = head.vessels as usize;

@@ -1,6 +1,6 @@
 //! The library's functions as `include/lumchaki.h` declares them.
 
-use calls::{Head, Movement, Opened, Ran, Reading, Reported, Transferred};
+use calls::{Head, Movement, Opened, Ran, Reading, Reported, Tipped, Transferred};
 
 extern "C" {
     pub fn lumchaki_open(rule: u32, vessels: u32) -> Opened;
@@ -14,6 +14,22 @@ extern "C" {
         weight: u32,
         age: u16,
     ) -> Transferred;
+    pub fn lumchaki_lift(
+        head: Head,
+        table: *mut u32,
+        table_len: usize,
+        source: u32,
+        minute: u32,
+        weight: u32,
+        age: u16,
+    ) -> Transferred;
+    pub fn lumchaki_tip(
+        head: Head,
+        table: *mut u32,
+        table_len: usize,
+        destination: u32,
+        minute: u32,
+    ) -> Tipped;
     pub fn lumchaki_held(
         head: Head,
         table: *const u32,
@@ -88,6 +104,8 @@ mod tests {
             let head = lumchaki_open(0, 2).head;
             [
                 lumchaki_transfer(head, null_mut(), 0, 0, 1, 0, 1, 0).number,
+                lumchaki_lift(head, null_mut(), 0, 0, 0, 1, 0).number,
+                lumchaki_tip(head, null_mut(), 0, 0, 0).number,
                 lumchaki_held(head, null(), 0, 0, r, 2).number,
                 lumchaki_held(head, null(), 0, 0, null_mut(), 0).number,
                 lumchaki_held(head, t, 8, 0, null_mut(), 0).number,
@@ -99,8 +117,8 @@ mod tests {
                 lumchaki_whole(head, t, 8, null_mut(), 0).number,
             ]
         };
-        let [transfer, reports @ ..] = numbers;
-        assert_eq!(transfer, SHORT);
+        let [transfer, lift, tip, reports @ ..] = numbers;
+        assert_eq!([transfer, lift, tip], [SHORT; 3]);
         for numbers in reports.chunks(3) {
             assert_eq!(numbers, [SHORT, SHORT, report_short]);
         }

@@ -5,7 +5,7 @@
 //! caller, and a table, lent to each call: four numbers for a piece. Nothing is allocated.
 //!
 //! ```
-//! use lumchaki::{held, open, transfer, Piece, Refusal, Transfer};
+//! use lumchaki::{held, lift, open, tip, transfer, Lift, Piece, Refusal, Tip, Transfer};
 //!
 //! // Two suppliers deliver to a silo; the mixer takes the oldest flour first (rule 2). The farm's
 //! // comes last and was milled first: it is 60 minutes old.
@@ -26,6 +26,12 @@
 //! let oldest = Piece::all(&head, &table).min_by_key(|p| p.birth);
 //! assert_eq!(oldest.map(|p| (p.holder, p.origin, p.birth)), Some((MIXER, FARM, 430)));
 //!
+//! // A baker may weigh first and decide on the vessel afterwards. Until then the scale is loaded.
+//! lift(&mut head, &mut table, Lift::new([SILO, 510, 150]))?;
+//! assert_eq!(held(&head, &table, MIXER, &mut report), Err(Refusal::ScaleLoaded));
+//! tip(&mut head, &mut table, Tip::new([MIXER, 512]))?;
+//! assert_eq!(held(&head, &table, MIXER, &mut report)?, [450, 300, 0, 0]);
+//!
 //! // A refusal changes nothing and has its number and word in document 01 or 02.
 //! let back = transfer(&mut head, &mut table, Transfer::new([SILO, MIXER, 499, 1]));
 //! assert_eq!(back, Err(Refusal::ClockBack));
@@ -40,10 +46,10 @@ mod ffi;
 pub mod raw;
 mod sheet;
 
-pub use book::{held, open, spread, transfer, whole, Moved};
+pub use book::{held, lift, open, spread, tip, transfer, whole, Moved};
 pub use calls::{
-    places, Head, Piece, Refusal, Transfer, MOVEMENTS, MOVEMENT_BYTES, NAME_BYTES, PLACES,
-    SHEET_HEADER, VESSELS,
+    places, Head, Lift, Piece, Refusal, Tip, Transfer, MOVEMENTS, MOVEMENT_BYTES, NAME_BYTES,
+    PLACES, SCALE, SHEET_HEADER, VESSELS,
 };
 pub use sheet::{movement, name, read, run, write, Run, Stop, Summary};
 

@@ -1,4 +1,4 @@
-//! Every call with its bare answer: numbers as document 01 lays them down, refusals included.
+//! Every call with its bare answer: numbers as documents 01 and 02 lay them down, refusals included.
 //! The functions of the crate's root stand on these and give a `Result`.
 //!
 //! Each call is safe for any argument: the library reads and writes within the slices that it is
@@ -9,7 +9,8 @@
 
 use crate::ffi;
 use calls::{
-    Head, Movement, Opened, Ran, Reading, Reported, Transfer, Transferred, NAME_BYTES, SHEET_HEADER,
+    Head, Lift, Movement, Opened, Ran, Reading, Reported, Tip, Tipped, Transfer, Transferred,
+    NAME_BYTES, SHEET_HEADER,
 };
 
 /// Opens a book.
@@ -31,6 +32,36 @@ pub fn transfer(head: Head, table: &mut [u32], t: Transfer) -> Transferred {
             t.minute,
             t.weight,
             t.age,
+        )
+    }
+}
+
+/// Lifts weight from a vessel onto the scale. What is born was milled `age` minutes before.
+pub fn lift(head: Head, table: &mut [u32], l: Lift) -> Transferred {
+    // SAFETY: the table is one slice, lent for writing.
+    unsafe {
+        ffi::lumchaki_lift(
+            head,
+            table.as_mut_ptr(),
+            table.len(),
+            l.source,
+            l.minute,
+            l.weight,
+            l.age,
+        )
+    }
+}
+
+/// Tips all that is on the scale into a vessel.
+pub fn tip(head: Head, table: &mut [u32], t: Tip) -> Tipped {
+    // SAFETY: the table is one slice, lent for writing.
+    unsafe {
+        ffi::lumchaki_tip(
+            head,
+            table.as_mut_ptr(),
+            table.len(),
+            t.destination,
+            t.minute,
         )
     }
 }

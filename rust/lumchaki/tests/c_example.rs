@@ -3,16 +3,18 @@
 use std::path::Path;
 use std::process::Command;
 
-/// The pieces of the six movements and the delivery of older flour, whose birth is 9 - 7; then the report.
+/// The weighing; the pieces of the six movements and the delivery of older flour, whose birth is 9 - 7,
+/// with what was weighed in vessel 1; then the report.
 const OUTPUT: &str = "\
+3 g on the scale
 holder origin birth weight
      0      2     3      2
      2      1     5      4
-     0      1     1      1
-     0      1     1      2
      0      1     2      3
+     1      1     1      1
+     1      1     1      2
 vessel 0 holds 0 g from vessel 0
-vessel 0 holds 6 g from vessel 1
+vessel 0 holds 3 g from vessel 1
 vessel 0 holds 2 g from vessel 2
 ";
 

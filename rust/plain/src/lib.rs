@@ -6,10 +6,12 @@
 mod book;
 mod report;
 mod sheet;
+mod tip;
 mod transfer;
 
 use calls::{
-    Engine, Head, Movement, Opened, Ran, Reading, Refusal, Reported, Transfer, Transferred,
+    Engine, Head, Lift, Movement, Opened, Ran, Reading, Refusal, Reported, Tip, Tipped, Transfer,
+    Transferred,
 };
 
 /// The plain implementation.
@@ -32,6 +34,20 @@ impl Engine for Plain {
 
     fn transfer(&self, head: Head, table: &mut [u32], transfer: Transfer) -> Transferred {
         transfer::transfer(head, table, &transfer)
+    }
+
+    fn lift(&self, head: Head, table: &mut [u32], lift: Lift) -> Transferred {
+        transfer::lift(head, table, &lift)
+    }
+
+    fn tip(&self, head: Head, table: &mut [u32], tip: Tip) -> Tipped {
+        match tip::tip(head, table, &tip) {
+            Ok(head) => Tipped { number: 0, head },
+            Err(refusal) => Tipped {
+                number: refusal.number(),
+                head,
+            },
+        }
     }
 
     fn held(&self, head: Head, table: &[u32], vessel: u32, report: &mut [u32]) -> Reported {

@@ -20,6 +20,7 @@ fn row(pieces: &[[u32; 4]], vessel: u32, report: &mut [u32]) {
 
 pub fn held(head: &Head, table: &[u32], vessel: u32, report: &mut [u32]) -> Result<(), Refusal> {
     book::check(head, table)?;
+    book::check_bare(head)?;
     if vessel >= head.vessels {
         return Err(Refusal::NoVessel);
     }
@@ -39,6 +40,7 @@ pub fn spread(
     report: &mut [u32],
 ) -> Result<(), Refusal> {
     book::check(head, table)?;
+    book::check_bare(head)?;
     if origin >= head.vessels {
         return Err(Refusal::NoVessel);
     }
@@ -61,6 +63,7 @@ pub fn spread(
 
 pub fn whole(head: &Head, table: &[u32], report: &mut [u32]) -> Result<(), Refusal> {
     book::check(head, table)?;
+    book::check_bare(head)?;
     let vessels = head.vessels as usize;
     if report.len() < vessels * vessels {
         return Err(Refusal::ReportShort);

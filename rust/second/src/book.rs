@@ -1,7 +1,9 @@
 //! The book: buffers, the transfer and the three reports.
 
+mod scale;
+
 use crate::buffer::{Buffer, Given, Lot};
-use calls::{Head, Piece, Refusal, Transfer, TOP, VESSELS};
+use calls::{Head, Lift, Piece, Refusal, Transfer, SCALE, TOP, VESSELS};
 
 /// A book that keeps its pieces itself.
 #[derive(Clone)]
@@ -12,11 +14,13 @@ pub struct Book {
     accepted: u32,
     buffers: Vec<Buffer>,
     balances: Vec<u64>,
+    /// What is on the scale, in order of receipt: no rule picks from it.
+    scale: Vec<Lot>,
     pieces: usize,
     receipts: u64,
 }
 
-/// What an accepted transfer did.
+/// What an accepted transfer or lift did.
 #[derive(Clone, Copy, Debug, Default, PartialEq, Eq)]
 pub struct Moved {
     /// How many pieces moved whole.
@@ -25,6 +29,43 @@ pub struct Moved {
     pub split: u32,
     /// The weight born.
     pub born: u32,
+}
+
+/// Takes from a vessel, lot by lot as its rule picks, and bears what it lacks. The receiver gets each
+/// lot with the next receipt.
+fn draw(from: &mut Buffer, want: &Lift, receipts: &mut u64, mut receive: impl FnMut(Lot)) -> Moved {
+    let mut moved = Moved::default();
+    let mut residue = want.weight;
+    let mut hand_on = |lot: Lot| {
+        let receipt = *receipts;
+        receive(Lot { receipt, ..lot });
+        *receipts += 1;
+    };
+    while residue > 0 {
+        let lot = match from.give(residue) {
+            Some(Given::Whole(lot)) => {
+                moved.whole += 1;
+                lot
+            }
+            Some(Given::Part(lot)) => {
+                moved.split += 1;
+                lot
+            }
+            None => break,
+        };
+        residue -= lot.weight;
+        hand_on(lot);
+    }
+    if residue > 0 {
+        moved.born = residue;
+        hand_on(Lot {
+            birth: want.minute - u32::from(want.age),
+            receipt: 0,
+            origin: want.source,
+            weight: residue,
+        });
+    }
+    moved
 }
 
 impl Book {
@@ -43,6 +84,7 @@ impl Book {
             accepted: 0,
             buffers: vec![Buffer::of_rule(rule); vessels as usize],
             balances: vec![0; vessels as usize],
+            scale: Vec::new(),
             pieces: 0,
             receipts: 0,
         })
@@ -57,7 +99,7 @@ impl Book {
             && pieces.len() <= places
             && head.pieces <= head.accepted;
         let sound = |p: &Piece| {
-            p.holder < head.vessels
+            (p.holder < head.vessels || p.holder == SCALE)
                 && p.origin < head.vessels
                 && p.birth <= head.last
                 && p.weight >= 1
@@ -66,18 +108,24 @@ impl Book {
             return Err(Refusal::BookOff);
         }
         for p in pieces {
-            book.buffers[p.holder as usize].receive(Lot {
+            let lot = Lot {
                 birth: p.birth,
                 receipt: book.receipts,
                 origin: p.origin,
                 weight: p.weight,
-            });
-            book.balances[p.holder as usize] += u64::from(p.weight);
+            };
+            if p.holder == SCALE {
+                book.scale.push(lot);
+            } else {
+                book.buffers[p.holder as usize].receive(lot);
+                book.balances[p.holder as usize] += u64::from(p.weight);
+            }
             book.receipts += 1;
         }
         book.pieces = pieces.len();
         let mut sums = book.balances.iter().copied().chain(std::iter::repeat(0));
-        if !head.balances.iter().all(|&b| sums.next() == Some(b.into())) {
+        let balanced = head.balances.iter().all(|&b| sums.next() == Some(b.into()));
+        if !balanced || book.on_scale() != head.scale.into() {
             return Err(Refusal::BookOff);
         }
         Ok(book)
@@ -86,6 +134,9 @@ impl Book {
     /// The refusal of a transfer, if one applies. Table and book were looked at before.
     fn refusal(&self, t: &Transfer) -> Option<Refusal> {
         let (source, destination) = (t.source as usize, t.destination as usize);
+        if !self.scale.is_empty() {
+            return Some(Refusal::ScaleLoaded);
+        }
         if source >= self.buffers.len() || destination >= self.buffers.len() {
             return Some(Refusal::NoVessel);
         }
@@ -107,14 +158,18 @@ impl Book {
         if self.accepted == TOP {
             return Some(Refusal::TallyFull);
         }
-        // Only a full table needs to know beforehand how the transfer will come out.
-        if self.pieces == self.places
-            && self.balances[source] != t.weight.into()
-            && !self.buffers[source].reaches(t.weight)
-        {
+        if self.no_place(source, t.weight) {
             return Some(Refusal::TableFull);
         }
         None
+    }
+
+    /// Whether taking weight from a vessel splits or bears and no place is free. Only a full table needs
+    /// to know beforehand how it will come out.
+    fn no_place(&self, source: usize, weight: u32) -> bool {
+        self.pieces == self.places
+            && self.balances[source] != weight.into()
+            && !self.buffers[source].reaches(weight)
     }
 
     /// Transfers weight: Algorithm 2 of the source with the rule's own pick.
@@ -125,56 +180,31 @@ impl Book {
         let (source, destination) = (t.source as usize, t.destination as usize);
         let vessels = self.buffers.get_disjoint_mut([source, destination]);
         let [from, to] = vessels.expect("two vessels of the book");
-        let mut moved = Moved::default();
-        let mut residue = t.weight;
-        while residue > 0 {
-            let Some(given) = from.give(residue) else {
-                break;
-            };
-            let lot = match given {
-                Given::Whole(lot) => {
-                    moved.whole += 1;
-                    lot
-                }
-                Given::Part(lot) => {
-                    moved.split += 1;
-                    lot
-                }
-            };
-            residue -= lot.weight;
-            to.receive(Lot {
-                receipt: self.receipts,
-                ..lot
-            });
-            self.receipts += 1;
-        }
-        if residue > 0 {
-            moved.born = residue;
-            to.receive(Lot {
-                birth: t.minute - u32::from(t.age),
-                receipt: self.receipts,
-                origin: t.source,
-                weight: residue,
-            });
-            self.receipts += 1;
-        }
-        self.pieces += moved.split as usize + usize::from(moved.born > 0);
-        self.balances[source] -= u64::from(t.weight - moved.born);
+        let want = t.lift();
+        let moved = draw(from, &want, &mut self.receipts, |lot| to.receive(lot));
         self.balances[destination] += u64::from(t.weight);
-        self.last = t.minute;
-        self.accepted += 1;
+        self.count(&want, &moved);
         Ok(moved)
+    }
+
+    /// Enters what the source of an accepted transfer or lift gave.
+    fn count(&mut self, want: &Lift, moved: &Moved) {
+        self.pieces += moved.split as usize + usize::from(moved.born > 0);
+        self.balances[want.source as usize] -= u64::from(want.weight - moved.born);
+        self.last = want.minute;
+        self.accepted += 1;
     }
 
     /// The pieces in order of receipt.
     pub fn pieces(&self) -> Vec<Piece> {
-        let mut all = Vec::with_capacity(self.pieces);
-        for (holder, buffer) in self.buffers.iter().enumerate() {
-            all.extend(buffer.lots().map(|lot| (lot.receipt, holder, *lot)));
+        let mut all: Vec<(u32, Lot)> = Vec::with_capacity(self.pieces);
+        for (holder, buffer) in (0..).zip(&self.buffers) {
+            all.extend(buffer.lots().map(|&lot| (holder, lot)));
         }
-        all.sort_unstable_by_key(|&(receipt, ..)| receipt);
-        let piece = |(_, holder, lot): (u64, usize, Lot)| Piece {
-            holder: holder as u32,
+        all.extend(self.scale.iter().map(|&lot| (SCALE, lot)));
+        all.sort_unstable_by_key(|(_, lot)| lot.receipt);
+        let piece = |(holder, lot): (u32, Lot)| Piece {
+            holder,
             origin: lot.origin,
             birth: lot.birth,
             weight: lot.weight,
@@ -190,6 +220,7 @@ impl Book {
             pieces: self.pieces as u32,
             last: self.last,
             accepted: self.accepted,
+            scale: self.on_scale() as u32, // at most TOP: one lift
             ..Head::ZERO
         };
         for (balance, &sum) in head.balances.iter_mut().zip(&self.balances) {
@@ -200,6 +231,7 @@ impl Book {
 
     /// The weight by origin in a vessel.
     pub fn held(&self, vessel: u32) -> Result<Vec<u32>, Refusal> {
+        self.scale_is_bare()?;
         let buffer = self.buffers.get(vessel as usize).ok_or(Refusal::NoVessel)?;
         let mut report = vec![0; self.buffers.len()];
         for lot in buffer.lots() {
@@ -210,6 +242,7 @@ impl Book {
 
     /// The weight in each vessel that was born at an origin, from one minute to another, both included.
     pub fn spread(&self, origin: u32, from: u32, to: u32) -> Result<Vec<u32>, Refusal> {
+        self.scale_is_bare()?;
         if origin as usize >= self.buffers.len() {
             return Err(Refusal::NoVessel);
         }
@@ -222,8 +255,9 @@ impl Book {
     }
 
     /// The held reports of all vessels, one behind the other.
-    pub fn whole(&self) -> Vec<u32> {
+    pub fn whole(&self) -> Result<Vec<u32>, Refusal> {
+        self.scale_is_bare()?;
         let rows = (0..self.buffers.len() as u32).filter_map(|v| self.held(v).ok());
-        rows.flatten().collect()
+        Ok(rows.flatten().collect())
     }
 }

@@ -1,10 +1,10 @@
 //! The second implementation behind the calls: head and lent table in, head and lent table out.
 
-use crate::book::Book;
+use crate::book::{Book, Moved};
 use crate::sheet::{name_part, Sheet};
 use calls::{
-    places, Engine, Head, Movement, Opened, Piece, Ran, Reading, Refusal, Reported, Transfer,
-    Transferred, NAME_BYTES, SHEET_HEADER,
+    places, Engine, Head, Lift, Movement, Opened, Piece, Ran, Reading, Refusal, Reported, Tip,
+    Tipped, Transfer, Transferred, NAME_BYTES, SHEET_HEADER,
 };
 
 /// The second implementation.
@@ -24,6 +24,33 @@ fn lay(book: &Book, table: &mut [u32]) {
     for (place, piece) in table.chunks_exact_mut(4).zip(book.pieces()) {
         place.copy_from_slice(&piece.numbers());
     }
+}
+
+/// A transfer or a lift, by the call that makes it.
+fn transferred(
+    head: Head,
+    table: &mut [u32],
+    call: impl FnOnce(&mut Book) -> Result<Moved, Refusal>,
+) -> Transferred {
+    let go = || {
+        let mut book = book_of(&head, table)?;
+        let moved = call(&mut book)?;
+        lay(&book, table);
+        Ok(Transferred {
+            number: 0,
+            head: book.head(),
+            whole: moved.whole,
+            split: moved.split,
+            born: moved.born,
+        })
+    };
+    go().unwrap_or_else(|refusal: Refusal| Transferred {
+        number: refusal.number(),
+        head,
+        whole: 0,
+        split: 0,
+        born: 0,
+    })
 }
 
 /// The numbers of a report go to the front of the room.
@@ -75,24 +102,26 @@ impl Engine for Second {
     }
 
     fn transfer(&self, head: Head, table: &mut [u32], transfer: Transfer) -> Transferred {
+        transferred(head, table, |book| book.transfer(transfer))
+    }
+
+    fn lift(&self, head: Head, table: &mut [u32], lift: Lift) -> Transferred {
+        transferred(head, table, |book| book.lift(lift))
+    }
+
+    fn tip(&self, head: Head, table: &mut [u32], tip: Tip) -> Tipped {
         let mut go = || {
             let mut book = book_of(&head, table)?;
-            let moved = book.transfer(transfer)?;
+            book.tip(tip)?;
             lay(&book, table);
-            Ok(Transferred {
+            Ok(Tipped {
                 number: 0,
                 head: book.head(),
-                whole: moved.whole,
-                split: moved.split,
-                born: moved.born,
             })
         };
-        go().unwrap_or_else(|refusal: Refusal| Transferred {
+        go().unwrap_or_else(|refusal: Refusal| Tipped {
             number: refusal.number(),
             head,
-            whole: 0,
-            split: 0,
-            born: 0,
         })
     }
 
@@ -114,7 +143,7 @@ impl Engine for Second {
     }
 
     fn whole(&self, head: Head, table: &[u32], report: &mut [u32]) -> Reported {
-        let numbers = book_of(&head, table).map(|book| book.whole());
+        let numbers = book_of(&head, table).and_then(|book| book.whole());
         reported(head, numbers.and_then(|n| fill(report, &n)))
     }
 

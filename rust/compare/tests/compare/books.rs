@@ -1,22 +1,25 @@
 //! Calls on books: any table, any head, any argument.
 
-use calls::{Head, Piece, Refusal, Transfer, Transferred, TOP};
+use calls::{Head, Piece, Refusal, Transfer, Transferred, SCALE, TOP};
 use compare::{
-    book, foul_book, near, report_room, room, subjects, transfer_for, Pair, Random, FOUL_CLAUSES,
+    book, foul_book, lift_for, loaded_book, near, report_room, room, subjects, tip_for,
+    transfer_for, Pair, Random, FOUL_CLAUSES,
 };
 
 /// Table lengths: none, every small one, those around 4,096 places.
-fn lengths() -> Vec<usize> {
+pub fn lengths() -> Vec<usize> {
     let mut lengths: Vec<usize> = (0..=40).collect();
     lengths.extend([100, 257, 1000]);
     lengths
 }
 
-const LONG: [usize; 7] = [16_380, 16_383, 16_384, 16_385, 16_388, 16_391, 20_000];
+pub const LONG: [usize; 7] = [16_380, 16_383, 16_384, 16_385, 16_388, 16_391, 20_000];
 
-/// What accepted transfers were like.
+const OFF: u32 = Refusal::BookOff.number();
+
+/// What accepted transfers or lifts were like.
 #[derive(Debug, Default)]
-struct Covered {
+pub struct Moves {
     splits: u32,
     births: u32,
     several_whole: u32,
@@ -24,8 +27,8 @@ struct Covered {
     ties: u32,
 }
 
-impl Covered {
-    fn add(&mut self, answer: &Transferred, transfer: Transfer, tied: bool) {
+impl Moves {
+    pub fn add(&mut self, answer: &Transferred, transfer: Transfer, tied: bool) {
         if answer.number == 0 {
             self.splits += answer.split;
             self.births += u32::from(answer.born > 0);
@@ -36,7 +39,7 @@ impl Covered {
         }
     }
 
-    fn expect(&self, at_least: u32) {
+    pub fn expect(&self, at_least: u32) {
         let counts = [
             self.splits,
             self.births,
@@ -49,7 +52,7 @@ impl Covered {
 }
 
 /// Whether a rule by birth finds two pieces of a vessel born at the same minute.
-fn tied(head: &Head, table: &[u32], vessel: u32) -> bool {
+pub fn tied(head: &Head, table: &[u32], vessel: u32) -> bool {
     let held = Piece::all(head, table).filter(|p| p.holder == vessel);
     let mut births: Vec<u32> = held.map(|p| p.birth).collect();
     births.sort_unstable();
@@ -57,7 +60,7 @@ fn tied(head: &Head, table: &[u32], vessel: u32) -> bool {
 }
 
 /// The three reports with arguments near the limits.
-fn reports(pair: &mut Pair, random: &mut Random, head: Head, table: &[u32]) {
+pub fn reports(pair: &mut Pair, random: &mut Random, head: Head, table: &[u32]) {
     let vessels = head.vessels.min(65);
     let length = report_room(random, vessels);
     let mut numbers = room(random, length);
@@ -93,7 +96,7 @@ fn calls_on_books_that_add_up() {
     for subject in subjects() {
         let mut pair = Pair::new(subject);
         let mut random = Random::new(1);
-        let mut covered = Covered::default();
+        let mut covered = Moves::default();
         for round in 0..600 {
             for &length in &lengths() {
                 let (mut head, mut table) = book(&mut random, round % 4, length);
@@ -116,10 +119,10 @@ fn calls_on_books_that_add_up() {
         ages.expect(&[0, 5, 6, 7, 8, 9, 10, 11], 50);
         // A book that adds up is never off, except on a table too short to hold one.
         pair.tally
-            .expect("transfer", &[0, 1, 5, 6, 7, 8, 9, 10, 11, 21], 100);
-        pair.tally.expect("held", &[0, 1, 5, 13], 100);
-        pair.tally.expect("spread", &[0, 1, 5, 12, 13], 100);
-        pair.tally.expect("whole", &[0, 1, 13], 100);
+            .expect("transfer", &[0, 1, 5, 6, 7, 8, 9, 10, 11, 21, 22], 100);
+        pair.tally.expect("held", &[0, 1, 5, 13, 22], 100);
+        pair.tally.expect("spread", &[0, 1, 5, 12, 13, 22], 100);
+        pair.tally.expect("whole", &[0, 1, 13, 22], 100);
     }
 }
 
@@ -159,14 +162,19 @@ fn heads_that_do_not_add_up() {
         for round in 0..60 {
             for &length in lengths.iter().chain(&LONG[round % LONG.len()..][..1]) {
                 for (clause, count) in FOUL_CLAUSES.into_iter().zip(&mut covered) {
-                    let (mut head, mut table) = book(&mut random, round as u32 % 4, length);
+                    let of = if round % 8 < 4 { book } else { loaded_book };
+                    let (mut head, mut table) = of(&mut random, round as u32 % 4, length);
                     if !foul_book(&mut random, clause, &mut head, &mut table) {
                         continue;
                     }
                     *count += 1;
                     let transfer = transfer_for(&mut random, &head, &table);
                     let answer = pair.transfer(head, &mut table, transfer);
-                    assert_eq!(answer.number, Refusal::BookOff.number(), "{clause}");
+                    assert_eq!(answer.number, OFF, "{clause}");
+                    let answer = pair.lift(head, &mut table, transfer.lift());
+                    assert_eq!(answer.number, OFF, "{clause}");
+                    let answer = pair.tip(head, &mut table, transfer.tip());
+                    assert_eq!(answer.number, OFF, "{clause}");
                     reports(&mut pair, &mut random, head, &table);
                 }
             }
@@ -174,9 +182,8 @@ fn heads_that_do_not_add_up() {
         pair.tally.print(&format!("heads off, {}", pair.label()));
         println!("{:?}", FOUL_CLAUSES.iter().zip(covered).collect::<Vec<_>>());
         assert!(covered.into_iter().all(|count| count > 500), "{covered:?}");
-        for call in ["transfer", "held", "spread", "whole"] {
-            pair.tally
-                .expect(call, &[Refusal::BookOff.number()], 10_000);
+        for call in ["transfer", "lift", "tip", "held", "spread", "whole"] {
+            pair.tally.expect(call, &[OFF], 10_000);
         }
     }
 }
@@ -200,7 +207,7 @@ fn more_pieces_than_places_on_a_long_table() {
             }
             let transfer = Transfer::new([0, 1, 9, 4097]);
             let answer = pair.transfer(head, &mut table, transfer);
-            assert_eq!(answer.number, Refusal::BookOff.number());
+            assert_eq!(answer.number, OFF);
             // One piece fewer is a full book.
             head.pieces -= 1;
             head.balances[0] -= 1;
@@ -229,12 +236,23 @@ fn any_head_and_any_table() {
             for balance in &mut head.balances[..4] {
                 *balance = near(&mut random, &[0, 0, 2]);
             }
+            head.scale = near(&mut random, &[0, 0, 0, 2]);
+            if length > 0 && random.once_in(4) {
+                let at = random.index(length);
+                table[at] = near(&mut random, &[SCALE]);
+            }
             let transfer = transfer_for(&mut random, &head, &table);
             pair.transfer(head, &mut table, transfer);
+            let lift = lift_for(&mut random, &head, &table);
+            pair.lift(head, &mut table, lift);
+            let tip = tip_for(&mut random, &head);
+            pair.tip(head, &mut table, tip);
             reports(&mut pair, &mut random, head, &table);
         }
         pair.tally.print(&format!("any head, {}", pair.label()));
-        assert!(pair.tally.count("transfer", 4) > 2_000);
-        assert!(pair.tally.count("transfer", 1) > 100);
+        for call in ["transfer", "lift", "tip"] {
+            assert!(pair.tally.count(call, 4) > 2_000);
+            assert!(pair.tally.count(call, 1) > 100);
+        }
     }
 }

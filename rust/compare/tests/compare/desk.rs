@@ -1,6 +1,6 @@
 //! Books kept by hand, and sheets, for worked vectors.
 
-use calls::{Engine, Head, Piece, Transfer};
+use calls::{Engine, Head, Lift, Piece, Tip, Transfer};
 use compare::subjects;
 use second::{Second, Sheet};
 use std::path::Path;
@@ -36,6 +36,32 @@ impl Desk {
         self.head = answer.head;
         self.even += u32::from(answer.even());
         answer.number
+    }
+
+    /// Lifts and gives the number.
+    pub fn lift(&mut self, lift: Lift) -> u32 {
+        let answer = self.engine.lift(self.head, &mut self.table, lift);
+        self.head = answer.head;
+        self.even += u32::from(answer.even());
+        answer.number
+    }
+
+    /// Tips and gives the number.
+    pub fn tip(&mut self, tip: Tip) -> u32 {
+        let answer = self.engine.tip(self.head, &mut self.table, tip);
+        self.head = answer.head;
+        answer.number
+    }
+
+    /// The numbers of the three reports, of vessel or origin 0.
+    pub fn reports(&self) -> [u32; 3] {
+        let (engine, head, table) = (self.engine, self.head, &self.table);
+        let room = &mut [0; 9];
+        [
+            engine.held(head, table, 0, room).number,
+            engine.spread(head, table, 0, (0, u32::MAX), room).number,
+            engine.whole(head, table, room).number,
+        ]
     }
 
     pub fn after(engine: &'static dyn Engine, rule: u32, movements: &[[u32; 4]]) -> Desk {

@@ -1,7 +1,8 @@
 //! The C header says what the Rust declarations say.
 
 use calls::{
-    Refusal, MOVEMENTS, MOVEMENT_BYTES, MOVEMENT_NUMBERS, NAME_BYTES, PLACES, SHEET_HEADER, VESSELS,
+    Refusal, MOVEMENTS, MOVEMENT_BYTES, MOVEMENT_NUMBERS, NAME_BYTES, PLACES, SCALE, SHEET_HEADER,
+    VESSELS,
 };
 
 const HEADER: &str = include_str!("../../../../include/lumchaki.h");
@@ -42,6 +43,7 @@ fn every_refusal_has_its_number_and_word() {
 fn every_limit_has_its_number() {
     let limits = [
         ("VESSELS", VESSELS),
+        ("SCALE", SCALE as usize),
         ("PLACES", PLACES),
         ("MOVEMENTS", MOVEMENTS),
         ("SHEET_HEADER", SHEET_HEADER),
@@ -60,6 +62,6 @@ fn every_limit_has_its_number() {
 #[test]
 fn every_function_is_declared() {
     let declared = functions(DECLARATIONS);
-    assert_eq!(declared.len(), 11);
+    assert_eq!(declared.len(), 13);
     assert_eq!(functions(HEADER), declared);
 }

@@ -1,6 +1,6 @@
 //! The order of a sheet's checks: every set of faults that it can have at once, read and written.
 
-use crate::order::{first, sets, Beside};
+use crate::order::{first, sets, Due};
 use calls::TOP;
 use compare::{subjects, Pair};
 
@@ -26,7 +26,7 @@ fn writing() {
     const FAULTS: [u32; 8] = [2, 3, 16, 15, 17, 18, 5, 19];
     for subject in subjects() {
         let mut pair = Pair::new(subject);
-        let mut beside = Beside::new(18);
+        let mut due = Due::default();
         // Each fault in more than one form. 18 and 5 are in the same movement.
         for form in 0..4 {
             for set in sets(&FAULTS) {
@@ -62,14 +62,15 @@ fn writing() {
                 let shape = (parts.rule, parts.vessels);
                 let number = pair.write(shape, &parts.names, &parts.numbers, &mut out);
                 assert_eq!(number, first(&set), "{set:?}");
-                beside.add(&set);
+                due.add(&set);
             }
         }
+        let said = due.said();
         pair.tally
-            .print(&format!("order, writing, {} {beside:?}", pair.label()));
+            .print(&format!("order, writing, {} {said}", pair.label()));
         pair.tally
             .expect("write", &[0, 2, 3, 5, 15, 16, 17, 18, 19], 4);
-        beside.expect(&FAULTS, 4);
+        due.expect(&FAULTS, 4);
     }
 }
 

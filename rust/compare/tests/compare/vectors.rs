@@ -5,7 +5,7 @@ use calls::{Refusal, Transfer, TOP};
 use second::{listing, Sheet, WeighBook};
 
 /// The six movements of the published table.
-const SIX: [[u32; 4]; 6] = [
+pub const SIX: [[u32; 4]; 6] = [
     [1, 2, 1, 3],
     [2, 0, 3, 5],
     [0, 1, 4, 3],
@@ -35,7 +35,7 @@ const K4: &[[u32; 4]] = &[
 ];
 
 /// What the six movements leave under each rule: the pieces and the even count.
-const AFTER_SIX: [(&[[u32; 4]], u32); 4] = [(K1, 2), (K3, 0), (K1, 2), (K4, 0)];
+pub const AFTER_SIX: [(&[[u32; 4]], u32); 4] = [(K1, 2), (K3, 0), (K1, 2), (K4, 0)];
 
 /// A rule, movements of three vessels, and the pieces they leave.
 type Vector = (u32, &'static [[u32; 4]], &'static [[u32; 4]]);

@@ -1,7 +1,10 @@
 //! The typed face of the wrapper against the bare answers under it.
 
 use calls::{Head, Refusal, Transfer};
-use compare::{book, damage, foul_book, near, room, sheet, transfer_for, Random, FOUL_CLAUSES};
+use compare::{
+    book, damage, foul_book, lift_for, loaded_book, near, room, sheet, tip_for, transfer_for,
+    Random, FOUL_CLAUSES,
+};
 use lumchaki::raw;
 use std::collections::BTreeMap;
 
@@ -84,8 +87,44 @@ fn books() {
             assert_eq!(report, &bare_numbers[..(vessels * vessels) as usize]);
         }
     }
-    for number in [0, 1, 4, 5, 6, 7, 8, 9, 10, 11, 12, 13, 21] {
+    for number in [0, 1, 4, 5, 6, 7, 8, 9, 10, 11, 12, 13, 21, 22] {
         assert!(seen.0.get(&number) > Some(&20), "{number}: {:?}", seen.0);
+    }
+}
+
+#[test]
+fn lifts_and_tips() {
+    let mut random = Random::new(43);
+    let mut seen = [Seen::default(), Seen::default()];
+    for round in 0..6_000 {
+        let length = random.index(50);
+        let of = if round % 8 < 4 { book } else { loaded_book };
+        let (mut head, mut table) = of(&mut random, round % 4, length);
+        if length >= 4 && random.once_in(8) {
+            let clause = random.one_of(&FOUL_CLAUSES);
+            foul_book(&mut random, clause, &mut head, &mut table);
+        }
+        let lift = lift_for(&mut random, &head, &table);
+        let mut bare_table = table.clone();
+        let bare = raw::lift(head, &mut bare_table, lift);
+        let result = lumchaki::lift(&mut head, &mut table, lift);
+        assert_eq!(seen[0].number(&result), bare.number);
+        assert_eq!((head, &table), (bare.head, &bare_table));
+        if let Ok(moved) = result {
+            let numbers = (moved.whole, moved.split, moved.born);
+            assert_eq!(numbers, (bare.whole, bare.split, bare.born));
+        }
+        let tip = tip_for(&mut random, &head);
+        let bare = raw::tip(head, &mut bare_table, tip);
+        let result = lumchaki::tip(&mut head, &mut table, tip);
+        assert_eq!(seen[1].number(&result), bare.number);
+        assert_eq!((head, &table), (bare.head, &bare_table));
+    }
+    let numbers: [&[u32]; 2] = [&[0, 1, 4, 5, 7, 8, 10, 11, 21, 22], &[0, 1, 4, 5, 8, 9, 23]];
+    for (seen, numbers) in seen.iter().zip(numbers) {
+        for number in numbers {
+            assert!(seen.0.get(number) > Some(&20), "{number}: {:?}", seen.0);
+        }
     }
 }
 

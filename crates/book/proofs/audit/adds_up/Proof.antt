@@ -1,4 +1,4 @@
--- `audit::adds_up` meets its contract: each `return` is the first clause of `addsUp` that fails, and the pass over the pieces is the last two.
+-- `audit::adds_up` meets its contract: each `return` is the first clause of `addsUp` that fails, and the pass over the pieces is the last three.
 -- Assumes nothing.
 use Rattle.table.proofs.Tests.{tests}
 use Rattle.table.proofs.Table.{places-fit}
@@ -32,8 +32,8 @@ returns-4 c = search (needs, places-short)
 returns-5 : tie.Need-returns-5
 returns-5 c = search (needs, tally-short)
 
-drains-requires : tie.Need-drains-requires
-drains-requires c κs = let few = c .before .before .before in (places-fit _ _ _ (few .before .places .ensures) (few .if4 .left), search needs)
+is-balanced-requires : tie.Need-is-balanced-requires
+is-balanced-requires c κs = let few = c .before .before in (places-fit _ _ _ (few .before .places .ensures) (few .if4 .left), search needs)
 
 returns-6 : tie.Need-returns-6
 returns-6 c = search (needs, adds-end)
@@ -49,5 +49,5 @@ adds-up-spec =
     places-requires
     returns-4
     returns-5
-    drains-requires
+    is-balanced-requires
     returns-6)

@@ -6,14 +6,14 @@ use Prim.Native.Nat.{_-_, _≤_}
 use mathlib.Core.Path.{_≡_, refl}
 use lib.ListN.{length, drop}
 use Rattle.table.specs.Table.{piecesOf}
-use Rattle.book.specs.Head.{mostVessels}
+use Rattle.book.specs.Head.{mostHolders}
 use Rattle.book.specs.Audit.{drained}
 use Rattle.book.proofs.Drained.{drain-next, drain-stop, drain-end, covered-holder, covered-weight}
 use Rattle.book.proofs.audit.drains.Statement.{statement}
 use Rattle.book.proofs.audit.drains.Tie as tie
 
 abbrev Inv-loop : tie.InvT-loop
-Inv-loop table n vessels last rest₀ i₀ rest i = (i ≤ n) × (length rest ≡ mostVessels) × (drained vessels last rest (drop i (piecesOf n table)) ≡ drained vessels last rest₀ (piecesOf n table))
+Inv-loop table n vessels last rest₀ i₀ rest i = (i ≤ n) × (length rest ≡ mostHolders) × (drained vessels last rest (drop i (piecesOf n table)) ≡ drained vessels last rest₀ (piecesOf n table))
 
 abbrev μ-loop : tie.MeasureT-loop
 μ-loop table n vessels last rest₀ i₀ rest i = n - i

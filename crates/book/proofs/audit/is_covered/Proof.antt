@@ -1,4 +1,4 @@
--- `audit::is_covered` meets its contract: where the piece fits its holder is one of the mostVessels, and the rest is the second test of `covers`.
+-- `audit::is_covered` meets its contract: where the piece fits its holder is one of the mostHolders, and the rest is the second test of `covers`.
 -- Assumes nothing.
 use Rattle.book.proofs.Drained.{within, test-passed, test-failed}
 use borrow.Author.Needs.{needs}

@@ -12,7 +12,7 @@ returns : tie.Need-returns
 unfolding bookChecks
 returns c = (
   search tests,
-  sized (λ v. search needs) (search needs),
+  sized (λ v. search needs) (search needs) (search needs),
 )
 
 adds-up-requires : tie.Need-adds-up-requires
@@ -21,13 +21,13 @@ adds-up-requires c κs = search needs
 returns-2 : tie.Need-returns-2
 returns-2 c = (
   search (needs, book-adds-up),
-  sized (λ v. search needs) (search needs),
+  sized (λ v. search needs) (search needs) (search needs),
 )
 
 returns-3 : tie.Need-returns-3
 returns-3 c = (
   search (needs, book-off),
-  sized (λ v. search needs) (search needs),
+  sized (λ v. search needs) (search needs) (search needs),
 )
 
 pub refusal-of-spec : {M : Type 1} → statement M
