@@ -146,8 +146,8 @@ lumchaki_transferred lumchaki_transfer(lumchaki_head head, uint32_t *table, size
                                        uint32_t weight, uint16_t age);
 
 /* A transfer can be divided: a lift takes the weight onto the scale, a tip empties the scale into a
- * vessel. Both in succession leave what the transfer leaves. Until the tip, transfers and reports are
- * refused with 22. No call takes the scale's number for a vessel: it is 5. */
+ * vessel. Both in succession leave what the transfer leaves. Until the tip, transfers, other lifts and
+ * reports are refused with 22. No call takes the scale's number for a vessel: that is 5. */
 
 /* Lifts weight from source onto the scale at a minute, picked and born as in a transfer. It counts as a
  * transfer. Checks 1, 4, 22, 5, 7, 8, 21, 10, 11. */

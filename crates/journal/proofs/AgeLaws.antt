@@ -1,31 +1,45 @@
--- Laws of the ages in a list of calls: one call by its two tests, and the scan by what is left of it.
+-- Laws of the ages in a list of calls: the age of a call by its kind, and the scan by what is left of it.
 -- Assumes nothing.
-use mathlib.Core.Path.{_≡_}
+use mathlib.Core.Path.{_≡_, refl}
 use mathlib.Core.Bool.{Bool, true, false}
 use mathlib.Core.List.{List}
 use Prim.Native.Nat.{ℕ, zero, suc, _+_, _-_, _*_, _≤_, _<_}
-use native.Mathlib.Nat.{add-zero, sub-zero}
+use native.Mathlib.Nat.{sub-zero}
 use native.Mathlib.Omega.{arith}
 use lib.Dec.{ltb}
 use lib.ListN.{getD, drop}
-use lib.Seq.{drop-drop, getD-drop}
-use borrow.Author.Tests.{ltb-false, eq-eqb, ne-eqb}
+use lib.Seq.{drop-drop}
+use borrow.Author.Tests.{ltb-false, ne-eqb}
 use Rattle.refusal.proofs.Numbers.{neither}
 use Rattle.book.specs.Transfer.{mostAge}
-use Rattle.journal.specs.Carried.{callSize, ageOff, agesOff}
+use Rattle.journal.specs.Carried.{callSize, ageIn, ageOff, agesOff}
 
-module _ (l : List ℕ) (at : ℕ) where
-  pub no-transfer : (getD l at 0 ≡ 0 → ⊥) → false ≡ ageOff (drop at l)
-  unfolding ageOff
-  no-transfer ne = simp (getD-drop, add-zero, ne-eqb _ _ ne)
+-- the age of a call by its kind
+module _ (l : List ℕ) (n : ℕ) (e : n ≡ getD l 0 0) where
+  pub age-of-transfer : n ≡ 0 → (r : ℕ) → r ≡ getD l 5 0 → r ≡ ageIn l
+  age-of-transfer z r er = rw (← e, z) er
 
-  module _ (e : getD l at 0 ≡ 0) where
-    pub of-transfer : ageOff (drop at l) ≡ ltb mostAge (getD l (at + 5) 0)
+  pub age-of-lift : (n ≡ 0 → ⊥) → n ≡ 4 → (r : ℕ) → r ≡ getD l 4 0 → r ≡ ageIn l
+  age-of-lift ne z r er = rw (← e, z) er
+
+  pub age-of-none : (n ≡ 0 → ⊥) → (n ≡ 4 → ⊥) → 0 ≡ ageIn l
+  age-of-none ne nl = rw (← e, ne-eqb _ _ ne, ne-eqb _ _ nl)
+
+  -- where none is off
+  module _ (h : ageOff l ≡ false) where
+    age-fits : ageIn l ≤ mostAge
     unfolding ageOff
-    of-transfer = simp (getD-drop, add-zero, eq-eqb _ _ e)
+    age-fits = ltb-false _ _ h
 
-    pub age-fits : ageOff (drop at l) ≡ false → getD l (at + 5) 0 ≤ mostAge
-    age-fits h = ltb-false _ _ (rw of-transfer at h)
+    pub transfer-age-fits : n ≡ 0 → getD l 5 0 ≤ mostAge
+    transfer-age-fits z = rw (← (age-of-transfer z (getD l 5 0) refl)) at age-fits
+
+    pub lift-age-fits : (n ≡ 0 → ⊥) → n ≡ 4 → getD l 4 0 ≤ mostAge
+    lift-age-fits ne z = rw (← (age-of-lift ne z (getD l 4 0) refl)) at age-fits
+
+pub age-compared : (l : List ℕ) (n : ℕ) → n ≡ ageIn l → ltb mostAge n ≡ ageOff l
+unfolding ageOff
+age-compared l n e = rw e
 
 -- Where the scan stands before call i of n: the calls that are left tell whether an age is off.
 pub record Scanned (n : ℕ) (l : List ℕ) (i : ℕ) : Type 0 where

@@ -5,12 +5,12 @@ use mathlib.Core.Path.{_≡_, refl, sym, ap, _∙_}
 use mathlib.Core.Bool.{Bool, true, false, cond}
 use mathlib.Core.List.{List, [], _∷_, _++_, append-assoc, append-nil}
 use Prim.Native.Nat.{ℕ, zero, suc, _+_, _-_, _*_, _≤_, _<_}
-use native.Mathlib.Nat.{add-zero, sub-zero}
+use native.Mathlib.Nat.{sub-zero}
 use native.Mathlib.Numerals.{add-one}
 use native.Mathlib.Omega.{arith}
 use lib.ListN.{length, getD, set, take, drop, length-set, take-append-drop}
-use lib.Seq.{drop-drop, getD-drop, take-suc-set, drop-set-lt}
-use borrow.Author.Tests.{eq-eqb, ne-eqb}
+use lib.Seq.{drop-drop, take-suc-set, drop-set-lt}
+use borrow.Author.Tests.{ne-eqb}
 use Rattle.refusal.specs.Numbers.{_if_, first, ifZero}
 use Rattle.refusal.proofs.Numbers.{not-zero, first-append}
 use Rattle.book.specs.declared.Head.{Head}
@@ -20,32 +20,68 @@ use Rattle.book.specs.declared.Reported.{Reported}
 use Rattle.book.specs.Head.{notOpened, openChecks, opens, opening}
 use Rattle.book.specs.declared.Report.{Report}
 use Rattle.book.specs.declared.Transfer.{Transfer}
+use Rattle.book.specs.declared.Lift.{Lift}
+use Rattle.book.specs.declared.Tip.{Tip}
+use Rattle.book.specs.declared.Tipped.{Tipped}
+use Rattle.book.specs.Transfer.{transferOf}
+use Rattle.book.specs.Scale.{liftOf, tipOf}
+use Rattle.book.specs.Calls.{Call, post, lift, tip}
 use Rattle.book.specs.Memory.{callOn}
 use Rattle.book.specs.Lists.{callsOn}
-use Rattle.posting.specs.Posting.{Posts}
+use Rattle.posting.specs.Posting.{Posts, Tips}
 use Rattle.reports.specs.Asking.{Asks}
-use Rattle.journal.specs.Carried.{callSize, reportOf, transferIn, reportIn, callIn, agesOff, roomLeft, Makes, Carried, carried, MakesAll, callsIn, countCalls, carryNumber, CarriesOut}
+use Rattle.journal.specs.Carried.{callSize, reportOf, transferIn, liftIn, tipIn, reportIn, callIn, agesOff, roomLeft, Made, Makes, Carried, carried, MakesAll, callsIn, countCalls, carryNumber, CarriesOut}
 use Rattle.reports.proofs.Asked.{asked-nothing}
 use Rattle.book.proofs.Lists.{demand-3}
 
+-- the calls in six numbers that were read one by one
+module _ (l : List ℕ) (a b c d e : ℕ) (ea : a ≡ getD l 1 0) (eb : b ≡ getD l 2 0) where
+  pub tip-read : tipOf a b ≡ tipIn l
+  tip-read = rw (ea, eb)
+
+  pub lift-read : c ≡ getD l 3 0 → d ≡ getD l 4 0 → liftOf a b c d ≡ liftIn l
+  lift-read ec ed = rw (ea, eb, ec, ed)
+
+  pub transfer-read : c ≡ getD l 3 0 → d ≡ getD l 4 0 → e ≡ getD l 5 0 → transferOf a b c d e ≡ transferIn l
+  transfer-read ec ed ee = rw (ea, eb, ec, ed, ee)
+
+pub report-read : (l : List ℕ) (k a b c : ℕ) (q : Report) → k ≡ getD l 0 0 → a ≡ getD l 1 0 → b ≡ getD l 2 0 → c ≡ getD l 3 0 → q ≡ reportOf k a b c → q ≡ reportIn l
+report-read l k a b c q ek ea eb ec e = e ∙ rw (ek, ea, eb, ec)
+
+-- what a transfer, a lift and a tip promise is what a call promises
+module _ (h : Head) (t l t′ : List ℕ) where
+  made-post : (c : Call) (z : Transferred) → Posts h c t t′ z → Made h c t t′ (record { number = z .number; head = z .head })
+  made-post c z p = record { answer = ap (λ (z : Transferred). record { number = z .number; head = z .head }) (p .answer); table = p .table }
+
+  pub made-transfer : (x : Transfer) → x ≡ transferIn l → (z : Transferred) → Posts h (post x) t t′ z → Made h (post (transferIn l)) t t′ (record { number = z .number; head = z .head })
+  made-transfer x ex z p = made-post (post (transferIn l)) z (rw ex at p)
+
+  pub made-lift : (x : Lift) → x ≡ liftIn l → (z : Transferred) → Posts h (lift x) t t′ z → Made h (lift (liftIn l)) t t′ (record { number = z .number; head = z .head })
+  made-lift x ex z p = made-post (lift (liftIn l)) z (rw ex at p)
+
+  pub made-tip : (y : Tip) → y ≡ tipIn l → (z : Tipped) → Tips h y t t′ z → Made h (tip (tipIn l)) t t′ (record { number = z .number; head = z .head })
+  made-tip y ey z p = let q = rw ey at p in record { answer = ap (λ (z : Tipped). record { number = z .number; head = z .head }) (q .answer); table = q .table }
+
 -- the kind tells the call
-module _ (h : Head) (t l : List ℕ) (at : ℕ) (room : List ℕ) where
-  kind-is : getD (drop at l) 0 0 ≡ getD l at 0
-  kind-is = simp (getD-drop, add-zero)
+module _ (h : Head) (t l room : List ℕ) (n : ℕ) (e : n ≡ getD l 0 0) where
+  module _ (t′ : List ℕ) (z : Reported) where
+    pub is-transfer : n ≡ 0 → Made h (post (transferIn l)) t t′ z → Makes h (callIn l room) t room t′ room z
+    unfolding callIn
+    is-transfer q m = rw (← e, q) (record { answer = m .answer; table = m .table; room = refl })
 
-  pub report-read : (q : Report) → q ≡ reportOf (getD l at 0) (getD l (at + 1) 0) (getD l (at + 2) 0) (getD l (at + 3) 0) → q ≡ reportIn (drop at l)
-  report-read q e = e ∙ simp (getD-drop, add-zero)
+    pub is-lift : (n ≡ 0 → ⊥) → n ≡ 4 → Made h (lift (liftIn l)) t t′ z → Makes h (callIn l room) t room t′ room z
+    unfolding callIn
+    is-lift nt q m = rw (← e, q) (record { answer = m .answer; table = m .table; room = refl })
 
-  pub made-transfer : getD l at 0 ≡ 0 → (x : Transfer) → x ≡ transferIn (drop at l) → (z : Transferred) (t′ : List ℕ) → Posts h x t t′ z
-      → Makes h (callIn (drop at l) room) t room t′ room (record { number = z .number; head = z .head })
+    pub is-tip : (n ≡ 0 → ⊥) → (n ≡ 4 → ⊥) → n ≡ 5 → Made h (tip (tipIn l)) t t′ z → Makes h (callIn l room) t room t′ room z
+    unfolding callIn
+    is-tip nt nl q m = rw (← e, q) (record { answer = m .answer; table = m .table; room = refl })
+
+  pub is-report : (n ≡ 0 → ⊥) → (n ≡ 4 → ⊥) → (n ≡ 5 → ⊥) → (q : Report) → q ≡ reportIn l → (z : Reported) (r′ : List ℕ)
+      → Asks h q t room r′ z → Makes h (callIn l room) t room t r′ z
   unfolding callIn
-  made-transfer e x ex z t′ p =
-      rw (eq-eqb (getD (drop at l) 0 0) 0 (kind-is ∙ e), ← ex) (record { answer = ap (λ (z : Transferred). record { number = z .number; head = z .head }) (p .answer); table = p .table; room = refl })
-
-  pub made-report : (getD l at 0 ≡ 0 → ⊥) → (q : Report) → q ≡ reportIn (drop at l) → (z : Reported) (r′ : List ℕ)
-      → Asks h q t room r′ z → Makes h (callIn (drop at l) room) t room t r′ z
-  unfolding callIn
-  made-report ne q e z r′ p = rw (ne-eqb (getD (drop at l) 0 0) 0 (λ z. ne (sym kind-is ∙ z)), ← e) (record { answer = p .answer; table = sym (asked-nothing h t q room .1); room = p .room })
+  is-report nt nl np q eq z r′ p =
+      rw (← eq, ← e, ne-eqb n 0 nt, ne-eqb n 4 nl, ne-eqb n 5 np) (record { answer = p .answer; table = sym (asked-nothing h t q room .1); room = p .room })
 
 -- Where carrying out stands before call i of n: the numbers so far and those that are left make the whole, and so do head, table and room.
 pub record Going (n : ℕ) (l : List ℕ) (h₀ : Head) (t₀ a₀ r₀ : List ℕ) (h : Head) (t a r : List ℕ) (i : ℕ) : Type 0 where

@@ -1,9 +1,10 @@
 -- A list of calls in numbers, carried out on a fresh book: demand 3 of running code. Six numbers are a call: its kind and its arguments.
--- Kind 0 is a transfer (source, destination, minute, weight, age), 1 the held report (vessel), 2 spread (origin, from, to), any other the whole report.
--- An age is a number of 16 bits: a list with a transfer of a larger one is refused whole, with 18.
+-- Kind 0 is a transfer (source, destination, minute, weight, age), 1 the held report (vessel), 2 spread (origin, from, to), 4 a lift (source, minute,
+-- weight, age), 5 a tip (destination, minute), 3 and any other the whole report. Numbers behind the arguments are not looked at.
+-- An age is a number of 16 bits: a list with a transfer or a lift of a larger one is refused whole, with 18.
 -- Definitions only. Assumes nothing.
 use mathlib.Core.Path.{_≡_}
-use mathlib.Core.Bool.{Bool, false, cond, _&&_, _||_}
+use mathlib.Core.Bool.{Bool, false, cond, _||_}
 use mathlib.Core.List.{List, [], _∷_, _++_}
 use Prim.Native.Nat.{ℕ, zero, suc, _/_, min}
 use lib.Dec.{eqb, ltb}
@@ -16,8 +17,11 @@ use Rattle.book.specs.declared.Report.{Report}
 use Rattle.book.specs.declared.Report.the-variants.{Held, Spread, Whole}
 use Rattle.book.specs.declared.Reported.{Reported}
 use Rattle.book.specs.declared.Transfer.{Transfer}
+use Rattle.book.specs.declared.Lift.{Lift}
+use Rattle.book.specs.declared.Tip.{Tip}
 use Rattle.book.specs.Transfer.{mostAge, transferOf}
-use Rattle.book.specs.Calls.{Call, post, ask}
+use Rattle.book.specs.Scale.{liftOf, tipOf}
+use Rattle.book.specs.Calls.{Call, post, lift, tip, ask}
 use Rattle.book.specs.Memory.{Outcome, callOn, reported}
 use Rattle.book.specs.Lists.{callsOn, Demand3}
 
@@ -28,31 +32,49 @@ callSize = 6
 abbrev pub reportOf : ℕ → ℕ → ℕ → ℕ → Report
 reportOf kind a b c = cond (eqb kind 1) (Held a) (cond (eqb kind 2) (Spread a b c) Whole)
 
--- the transfer in the first six numbers, where they are one, and the report
+-- the transfer in the first six numbers, where they are one, the lift, the tip and the report
 abbrev pub transferIn : List ℕ → Transfer
 transferIn l = transferOf (getD l 1 0) (getD l 2 0) (getD l 3 0) (getD l 4 0) (getD l 5 0)
+
+abbrev pub liftIn : List ℕ → Lift
+liftIn l = liftOf (getD l 1 0) (getD l 2 0) (getD l 3 0) (getD l 4 0)
+
+abbrev pub tipIn : List ℕ → Tip
+tipIn l = tipOf (getD l 1 0) (getD l 2 0)
 
 abbrev pub reportIn : List ℕ → Report
 reportIn l = reportOf (getD l 0 0) (getD l 1 0) (getD l 2 0) (getD l 3 0)
 
 -- the call in the first six numbers, with the room that it is lent
 unfoldable pub callIn : List ℕ → List ℕ → Call
-callIn l room = cond (eqb (getD l 0 0) 0) (post (transferIn l)) (ask (reportIn l) room)
+callIn l room =
+    let kind = getD l 0 0 in
+    cond (eqb kind 0) (post (transferIn l)) (cond (eqb kind 4) (lift (liftIn l)) (cond (eqb kind 5) (tip (tipIn l)) (ask (reportIn l) room)))
 
--- whether the first six numbers are a transfer with an age above the largest, and whether some of the first n calls are
+-- the age in the first six numbers, 0 where the call has none; whether it is above the largest, and whether one of the first n calls has such an age
+abbrev pub ageIn : List ℕ → ℕ
+ageIn l = let kind = getD l 0 0 in cond (eqb kind 0) (getD l 5 0) (cond (eqb kind 4) (getD l 4 0) 0)
+
 unfoldable pub ageOff : List ℕ → Bool
-ageOff l = eqb (getD l 0 0) 0 && ltb mostAge (getD l 5 0)
+ageOff l = ltb mostAge (ageIn l)
 
 unfoldable pub agesOff : ℕ → List ℕ → Bool
 agesOff zero l = false
 agesOff (suc n) l = ageOff l || agesOff n (drop callSize l)
 
--- the room after a call: a transfer has none to write to
+-- the room after a call: only a report has some to write to
 abbrev pub roomLeft : Call → Outcome → List ℕ → List ℕ
 roomLeft (post x) o room = room
+roomLeft (lift x) o room = room
+roomLeft (tip y) o room = room
 roomLeft (ask q r) o room = o .room
 
--- What one call promises: its number and the next head, and table and room after it.
+-- What one call that writes to no room promises: its number and the next head, and the table after it.
+pub record Made (h : Head) (c : Call) (t t′ : List ℕ) (z : Reported) : Type 0 where
+  pub answer : z ≡ reported (callOn h t c)
+  pub table : t′ ≡ (callOn h t c) .table
+
+-- What any call promises: its number and the next head, and table and room after it.
 pub record Makes (h : Head) (c : Call) (t r t′ r′ : List ℕ) (z : Reported) : Type 0 where
   pub answer : z ≡ reported (callOn h t c)
   pub table : t′ ≡ (callOn h t c) .table

@@ -1,15 +1,18 @@
 // A list of calls carried out on a fresh book, from a lent slice of numbers.
 ghost use mathlib.Core.Path.{_≡_};
 ghost use mathlib.Core.Bool.{false};
-ghost use Prim.Native.Nat.{_≤_, _+_, _*_, min};
+ghost use Prim.Native.Nat.{_≤_, _<_, _+_, _*_, min};
 ghost use lib.ListN.{length, getD, drop};
 ghost use Rattle.book.specs.Transfer.{mostAge};
-ghost use Rattle.journal.specs.Carried.{callSize, reportOf, transferIn, reportIn, callIn, ageOff, agesOff, Makes, MakesAll, CarriesOut};
+ghost use Rattle.book.specs.Calls.{post, lift, tip};
+ghost use Rattle.journal.specs.Carried.{callSize, reportOf, transferIn, liftIn, tipIn, reportIn, callIn, ageIn, ageOff, agesOff, Made, Makes, MakesAll, CarriesOut};
 use book::Head;
+use book::Lift;
 use book::MOST_AGE;
 use book::Opened;
 use book::Report;
 use book::Reported;
+use book::Tip;
 use book::Transfer;
 use book::opening;
 
@@ -21,6 +24,10 @@ const TRANSFER: u32 = 0;
 const HELD: u32 = 1;
 
 const SPREAD: u32 = 2;
+
+const LIFT: u32 = 4;
+
+const TIP: u32 = 5;
 
 // The report of a kind.
 fn report_of(kind: u32, a: u32, b: u32, c: u32) -> Report
@@ -35,17 +42,49 @@ fn report_of(kind: u32, a: u32, b: u32, c: u32) -> Report
     Report::Whole
 }
 
+// Number k of the six from `at` on.
+fn number_at(calls: &[u32], at: usize, k: usize) -> u32
+    requires { ⌜ (at + callSize ≤ length (now calls)) × (k < callSize) ⌝ }
+    ensures { λ r. ⌜ r ≡ getD (drop at (now (calls .entry))) k 0 ⌝ }
+{
+    calls[at + k]
+}
+
 // The transfer in the six numbers from `at` on.
 fn transfer_at(calls: &[u32], at: usize) -> Transfer
-    requires { ⌜ (at + callSize ≤ length (now calls)) × (getD (now calls) (at + 5) 0 ≤ mostAge) ⌝ }
+    requires { ⌜ (at + callSize ≤ length (now calls)) × (getD (drop at (now calls)) 5 0 ≤ mostAge) ⌝ }
     ensures { λ r. ⌜ r ≡ transferIn (drop at (now (calls .entry))) ⌝ }
 {
     Transfer {
-        source: calls[at + 1],
-        destination: calls[at + 2],
-        minute: calls[at + 3],
-        weight: calls[at + 4],
-        age: calls[at + 5] as u16,
+        source: number_at(calls, at, 1),
+        destination: number_at(calls, at, 2),
+        minute: number_at(calls, at, 3),
+        weight: number_at(calls, at, 4),
+        age: number_at(calls, at, 5) as u16,
+    }
+}
+
+// The lift in the six numbers from `at` on.
+fn lift_at(calls: &[u32], at: usize) -> Lift
+    requires { ⌜ (at + callSize ≤ length (now calls)) × (getD (drop at (now calls)) 4 0 ≤ mostAge) ⌝ }
+    ensures { λ r. ⌜ r ≡ liftIn (drop at (now (calls .entry))) ⌝ }
+{
+    Lift {
+        source: number_at(calls, at, 1),
+        minute: number_at(calls, at, 2),
+        weight: number_at(calls, at, 3),
+        age: number_at(calls, at, 4) as u16,
+    }
+}
+
+// The tip in the six numbers from `at` on.
+fn tip_at(calls: &[u32], at: usize) -> Tip
+    requires { ⌜ at + callSize ≤ length (now calls) ⌝ }
+    ensures { λ r. ⌜ r ≡ tipIn (drop at (now (calls .entry))) ⌝ }
+{
+    Tip {
+        destination: number_at(calls, at, 1),
+        minute: number_at(calls, at, 2),
     }
 }
 
@@ -54,7 +93,54 @@ fn report_at(calls: &[u32], at: usize) -> Report
     requires { ⌜ at + callSize ≤ length (now calls) ⌝ }
     ensures { λ r. ⌜ r ≡ reportIn (drop at (now (calls .entry))) ⌝ }
 {
-    report_of(calls[at], calls[at + 1], calls[at + 2], calls[at + 3])
+    report_of(
+        number_at(calls, at, 0),
+        number_at(calls, at, 1),
+        number_at(calls, at, 2),
+        number_at(calls, at, 3),
+    )
+}
+
+// That transfer is made.
+fn make_transfer(head: Head, table: &mut [u32], calls: &[u32], at: usize) -> Reported
+    requires { ⌜ (at + callSize ≤ length (now calls)) × (getD (drop at (now calls)) 5 0 ≤ mostAge) ⌝ }
+    ensures { λ r. ⌜ Made head (post (transferIn (drop at (now (calls .entry))))) (now (table .entry)) (now (table .exit)) r ⌝ }
+{
+    let x = transfer_at(calls, at);
+    let r = posting::transfer(head, table, x);
+    let next = r.head;
+    Reported {
+        number: r.number,
+        head: next,
+    }
+}
+
+// That lift is made.
+fn make_lift(head: Head, table: &mut [u32], calls: &[u32], at: usize) -> Reported
+    requires { ⌜ (at + callSize ≤ length (now calls)) × (getD (drop at (now calls)) 4 0 ≤ mostAge) ⌝ }
+    ensures { λ r. ⌜ Made head (lift (liftIn (drop at (now (calls .entry))))) (now (table .entry)) (now (table .exit)) r ⌝ }
+{
+    let x = lift_at(calls, at);
+    let r = posting::lift(head, table, x);
+    let next = r.head;
+    Reported {
+        number: r.number,
+        head: next,
+    }
+}
+
+// That tip is made.
+fn make_tip(head: Head, table: &mut [u32], calls: &[u32], at: usize) -> Reported
+    requires { ⌜ at + callSize ≤ length (now calls) ⌝ }
+    ensures { λ r. ⌜ Made head (tip (tipIn (drop at (now (calls .entry))))) (now (table .entry)) (now (table .exit)) r ⌝ }
+{
+    let y = tip_at(calls, at);
+    let r = posting::tip(head, table, y);
+    let next = r.head;
+    Reported {
+        number: r.number,
+        head: next,
+    }
 }
 
 // The call in the six numbers from `at` on.
@@ -63,31 +149,44 @@ fn call_at(head: Head, table: &mut [u32], calls: &[u32], at: usize, room: &mut [
     ensures { λ r. ⌜ Makes head (callIn (drop at (now (calls .entry))) (now (room .entry)))
         (now (table .entry)) (now (room .entry)) (now (table .exit)) (now (room .exit)) r ⌝ }
 {
-    if calls[at] == TRANSFER {
-        let x = transfer_at(calls, at);
-        let r = posting::transfer(head, table, x);
-        let next = r.head;
-        return Reported {
-            number: r.number,
-            head: next,
-        };
+    let kind = number_at(calls, at, 0);
+    if kind == TRANSFER {
+        return make_transfer(head, table, calls, at);
+    }
+    if kind == LIFT {
+        return make_lift(head, table, calls, at);
+    }
+    if kind == TIP {
+        return make_tip(head, table, calls, at);
     }
     let asked = report_at(calls, at);
     reports::report(head, table, asked, room)
 }
 
-// Whether the call in the six numbers from `at` on is a transfer with an age that is no number of 16 bits.
+// The age in the six numbers from `at` on, 0 where the call has none.
+fn age_at(calls: &[u32], at: usize) -> u32
+    requires { ⌜ at + callSize ≤ length (now calls) ⌝ }
+    ensures { λ r. ⌜ r ≡ ageIn (drop at (now (calls .entry))) ⌝ }
+{
+    let kind = number_at(calls, at, 0);
+    if kind == TRANSFER {
+        return number_at(calls, at, 5);
+    }
+    if kind == LIFT {
+        return number_at(calls, at, 4);
+    }
+    0
+}
+
+// Whether that age is no number of 16 bits.
 fn age_off(calls: &[u32], at: usize) -> bool
     requires { ⌜ at + callSize ≤ length (now calls) ⌝ }
     ensures { λ r. ⌜ r ≡ ageOff (drop at (now (calls .entry))) ⌝ }
 {
-    if calls[at] != TRANSFER {
-        return false;
-    }
-    calls[at + 5] > MOST_AGE
+    age_at(calls, at) > MOST_AGE
 }
 
-// Whether one of the first n calls is such a transfer.
+// Whether one of the first n calls has such an age.
 fn ages_off(n: usize, calls: &[u32]) -> bool
     requires { ⌜ callSize * n ≤ length (now calls) ⌝ }
     ensures { λ r. ⌜ r ≡ agesOff n (now (calls .entry)) ⌝ }

@@ -9,9 +9,10 @@ use lib.ListN.{replicate}
 use Rattle.table.specs.Table.{piecesOf, flat, placesOf}
 use Rattle.picking.specs.Selection.{precedes}
 use Rattle.picking.specs.Taking.{takeUpTo, taken}
-use Rattle.book.specs.Head.{emptyHead, tab, balancesOf, allFit, same, addsUp, opening}
+use Rattle.book.specs.Head.{emptyHead, tab, balancesOf, every, same, addsUp, opening}
 use Rattle.book.specs.Audit.{allZero}
-use Rattle.book.specs.Transfer.{transferChecks, takes}
+use Rattle.book.specs.Motion.{takes}
+use Rattle.book.specs.Transfer.{transferChecks}
 use Rattle.book.specs.Memory.{bookChecks, numberOf, callOn}
 use Rattle.fields.specs.Bytes.{valueIn, bytesOf, groups, exists}
 use Rattle.fields.specs.Layout.{movementsOff}
@@ -30,7 +31,7 @@ abbrev pieces : List Piece
 pieces = piece 0 2 3 2 ∷ piece 2 1 5 4 ∷ piece 1 1 1 2 ∷ piece 0 1 1 1 ∷ []
 
 abbrev head : Head
-head = record { rule = 2; vessels = 3; pieces = 4; last = 8; accepted = 6; balances = [] }
+head = record { rule = 2; vessels = 3; pieces = 4; last = 8; accepted = 6; balances = []; scale = 0 }
 
 -- "vessels 3 rule 2 accepted 6 pieces 4 even 2"
 abbrev line0 : List ℕ
@@ -71,7 +72,7 @@ six =
 
 -- the table that is lent: eight places, and no zeros in it
 pub published-whole : sheetListing (sheetOf 2 3 names six) (replicate 32 9) ≡ lines
-unfolding listingText bookText firstLine pieceLines pieceLine decimal digits sheetOf bytesOf groups flatMap readNumber noSheet movementsOff layoutOff valueIn exists wellFormed letters allZero entriesChecks runFrom runNumber running callOn numberOf bookChecks addsUp allFit same balancesOf tab placesOf piecesOf flat opening transferChecks takes taken takeUpTo precedes
+unfolding listingText bookText firstLine pieceLines pieceLine decimal digits sheetOf bytesOf groups flatMap readNumber noSheet movementsOff layoutOff valueIn exists wellFormed letters allZero entriesChecks runFrom runNumber running callOn numberOf bookChecks addsUp every same balancesOf tab placesOf piecesOf flat opening transferChecks takes taken takeUpTo precedes
 published-whole = refl
 
 -- "stopped 6 at 9"

@@ -68,13 +68,12 @@ fn next_head(head: Head, m: Motion, moved: Applied) -> Head
     requires { ⌜ Countable head m moved ⌝ }
     ensures { λ r. ⌜ r ≡ nextHead head m moved ⌝ }
 {
-    let x = m.moves;
     let mut next = balances::shift(
         head,
-        x.source,
-        x.weight - moved.born,
-        x.destination,
-        x.weight,
+        m.moves.source,
+        m.moves.weight - moved.born,
+        m.moves.destination,
+        m.moves.weight,
     );
     next.pieces = moved.count as u32;
     next.last = m.minute;

@@ -1,7 +1,7 @@
 // Posting to a book: transfer, lift and tip, each by its checks, the pieces moved, and the next head.
 ghost use mathlib.Core.Path.{_≡_};
 ghost use Rattle.book.specs.Calls.{post, lift};
-ghost use Rattle.posting.specs.Posting.{Posts, Tips, Workable};
+ghost use Rattle.posting.specs.Posting.{Posts, Tips, Audited, Workable};
 use book::Head;
 use book::Lift;
 use book::Tip;
@@ -37,6 +37,19 @@ pub fn transfer_known(
     carrying::carry(head, table, head.rule, m, keys, spare, lifted)
 }
 
+// A transfer on a book that checks 1 and 4 let pass.
+fn transfer_audited(head: Head, table: &mut [u32], x: Transfer) -> Transferred
+    requires { ⌜ Audited head (now table) ⌝ }
+    ensures { λ r. ⌜ Posts head (post x) (now (table .entry)) (now (table .exit)) r ⌝ }
+{
+    let number = checks::of_transfer(head, x);
+    if number != 0 {
+        return carrying::refused(head, number);
+    }
+    let m = carrying::motion_of(x);
+    carrying::carry_alone(head, table, head.rule, m)
+}
+
 // A transfer of weight from source to destination at a minute, with the age of what is born.
 pub fn transfer(head: Head, table: &mut [u32], x: Transfer) -> Transferred
     ensures { λ r. ⌜ Posts head (post x) (now (table .entry)) (now (table .exit)) r ⌝ }
@@ -45,11 +58,19 @@ pub fn transfer(head: Head, table: &mut [u32], x: Transfer) -> Transferred
     if off != 0 {
         return carrying::refused(head, off);
     }
-    let number = checks::of_transfer(head, x);
+    transfer_audited(head, table, x)
+}
+
+// A lift on a book that checks 1 and 4 let pass.
+fn lift_audited(head: Head, table: &mut [u32], x: Lift) -> Transferred
+    requires { ⌜ Audited head (now table) ⌝ }
+    ensures { λ r. ⌜ Posts head (lift x) (now (table .entry)) (now (table .exit)) r ⌝ }
+{
+    let number = checks::of_lift(head, x);
     if number != 0 {
         return carrying::refused(head, number);
     }
-    let m = carrying::motion_of(x);
+    let m = carrying::lift_motion(x);
     carrying::carry_alone(head, table, head.rule, m)
 }
 
@@ -61,12 +82,7 @@ pub fn lift(head: Head, table: &mut [u32], x: Lift) -> Transferred
     if off != 0 {
         return carrying::refused(head, off);
     }
-    let number = checks::of_lift(head, x);
-    if number != 0 {
-        return carrying::refused(head, number);
-    }
-    let m = carrying::lift_motion(x);
-    carrying::carry_alone(head, table, head.rule, m)
+    lift_audited(head, table, x)
 }
 
 // What a tip answers.
@@ -79,6 +95,20 @@ fn tip_answer(number: u32, head: Head) -> Tipped
     }
 }
 
+// A tip on a book that checks 1 and 4 let pass.
+fn tip_audited(head: Head, table: &mut [u32], y: Tip) -> Tipped
+    requires { ⌜ Audited head (now table) ⌝ }
+    ensures { λ r. ⌜ Tips head y (now (table .entry)) (now (table .exit)) r ⌝ }
+{
+    let number = checks::of_tip(head, y);
+    if number != 0 {
+        return tip_answer(number, head);
+    }
+    let m = carrying::tip_motion(head, y);
+    let r = carrying::carry_alone(head, table, AS_THEY_LIE, m);
+    tip_answer(r.number, r.head)
+}
+
 // All that is on the scale tipped into a vessel at a minute.
 pub fn tip(head: Head, table: &mut [u32], y: Tip) -> Tipped
     ensures { λ r. ⌜ Tips head y (now (table .entry)) (now (table .exit)) r ⌝ }
@@ -87,12 +117,5 @@ pub fn tip(head: Head, table: &mut [u32], y: Tip) -> Tipped
     if off != 0 {
         return tip_answer(off, head);
     }
-    let number = checks::of_tip(head, y);
-    if number != 0 {
-        return tip_answer(number, head);
-    }
-    let m = carrying::tip_motion(head, y);
-    let r = carrying::carry_alone(head, table, AS_THEY_LIE, m);
-    let next = r.head;
-    tip_answer(r.number, next)
+    tip_audited(head, table, y)
 }

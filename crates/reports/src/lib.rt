@@ -1,11 +1,12 @@
 // Reports: the weight by origin in a vessel, by vessel from an origin, and all of it. Each writes to room that the caller lends.
 ghost use mathlib.Core.Path.{_≡_};
-ghost use mathlib.Core.List.{_++_};
+ghost use mathlib.Core.List.{_∷_, _++_};
 ghost use Prim.Native.Nat.{_≤_, _*_};
 ghost use lib.ListN.{length, drop, replicate};
 ghost use Rattle.table.specs.Table.{piecesOf};
 ghost use Rattle.refusal.specs.Numbers.{first};
 ghost use Rattle.book.specs.declared.Report.the-variants.{Held, Spread, Whole};
+ghost use Rattle.book.specs.Motion.{ofHead, loaded};
 ghost use Rattle.book.specs.Reports.{heldRow, rows, reportRow, reportChecks, onto};
 ghost use Rattle.reports.specs.Asking.{Asks};
 ghost use Rattle.reports.specs.Scatter.{born, counted, indexOf, entered, scatter, Enterable, Fillable, rowOf, Tallied, Reportable};
@@ -147,7 +148,7 @@ fn fill(table: &[u32], n: usize, vessels: u32, asked: Report, room: &mut [u32])
     }
 }
 
-// The checks after 1 and 4.
+// The checks after 1, 4 and 22.
 fn refusal_to(asked: Report, vessels: u32, room: usize) -> u32
     ensures { λ r. ⌜ r ≡ first (reportChecks vessels room asked) ⌝ }
 {
@@ -183,6 +184,16 @@ fn refusal_to(asked: Report, vessels: u32, room: usize) -> u32
     }
 }
 
+// The checks of a report on a book that adds up: 22, then its own.
+fn refusal_on(head: Head, asked: Report, room: usize) -> u32
+    ensures { λ r. ⌜ r ≡ first (loaded (ofHead head) ∷ reportChecks (head .vessels) room asked) ⌝ }
+{
+    if 0 < head.scale {
+        return refusal::SCALE_LOADED;
+    }
+    refusal_to(asked, head.vessels, room)
+}
+
 // What is asked of the book, written to the room.
 pub fn report(head: Head, table: &[u32], asked: Report, room: &mut [u32]) -> Reported
     ensures { λ r. ⌜ Asks head asked (now (table .entry)) (now (room .entry)) (now (room .exit)) r ⌝ }
@@ -191,7 +202,7 @@ pub fn report(head: Head, table: &[u32], asked: Report, room: &mut [u32]) -> Rep
     if off != 0 {
         return answer(off, head);
     }
-    let number = refusal_to(asked, head.vessels, room.len());
+    let number = refusal_on(head, asked, room.len());
     if number != 0 {
         return answer(number, head);
     }

@@ -81,7 +81,7 @@ module _ (s : List ℕ) (m : ℕ) (h₀ : Head) (t₀ k₀ p₀ l₀ : List ℕ)
   pub going-makes : i < m → (readNumber s ≡ 0) × (i < movementsOf s) × Workable h t k p l
   going-makes q = (able .reads, rw (able .count) at q, g .work)
 
-  module _ (made : Transferred) (t′ : List ℕ) (q : i < m) (posts : Posts h (transferAt s i) t t′ made) where
+  module _ (made : Transferred) (t′ : List ℕ) (q : i < m) (posts : Posts h (post (transferAt s i)) t t′ made) where
     same-number : made .number ≡ o .number
     same-number = ap (λ (z : Transferred). z .number) (posts .answer)
 
@@ -102,18 +102,20 @@ module _ (s : List ℕ) (m : ℕ) (h₀ : Head) (t₀ k₀ p₀ l₀ : List ℕ)
       pub going-next : (k′ p′ l′ : List ℕ) → length k′ ≡ length k → length p′ ≡ length p → length l′ ≡ length l
           → Going s m h₀ t₀ k₀ p₀ l₀ (made .head) t′ k′ p′ l′ (even + one) (i + 1)
       going-next k′ p′ l′ lk lp ll =
-          let known = known-up h t (g .work .sized) (g .work .adds-up) in
-          let u = known-after h t known (post (transferAt s i)) in
-          let v = length-after h t known (post (transferAt s i)) in
+          let known = known-up h t (g .work .audited .sized) (g .work .audited .adds-up) in
+          let u = known-after h t known (transferAt s i) in
+          let v = length-after h t known (transferAt s i) in
           let n : o .number ≡ 0 = sym same-number ∙ z in
           let es : one ≡ o .even = eo .0 ∙ ap (λ (z : Transferred). ifZero (z .split + z .born) 1 0) (posts .answer) ∙ sym (even-said h t (transferAt s i) n) in
           record {
             inside = omega arith;
             some-even = omega (arith, g .some-even, eo .1);
             work = record {
-              long = rw (posts .table, v) (g .work .long);
-              adds-up = rw (posts .answer, posts .table) (u .adds);
-              sized = rw (posts .answer) (u .sized);
+              audited = record {
+                long = rw (posts .table, v) (g .work .audited .long);
+                adds-up = rw (posts .answer, posts .table) (u .adds);
+                sized = rw (posts .answer) (u .sized);
+              };
               memory = lk ∙ g .work .memory;
               aside = rw lp (g .work .aside);
               above = rw ll (g .work .above);
@@ -146,7 +148,7 @@ going-start s m h t k p l able = record {
 
 -- a movement as it is read is the transfer that is made
 pub made-as : (h : Head) (t s : List ℕ) (i : ℕ) (m : Movement) (z : Transferred) (t′ : List ℕ) → m ≡ movementAt s i
-    → Posts h (transferOf (m .source) (m .destination) (m .minute) (m .weight) (m .age)) t t′ z → Posts h (transferAt s i) t t′ z
+    → Posts h (post (transferOf (m .source) (m .destination) (m .minute) (m .weight) (m .age))) t t′ z → Posts h (post (transferAt s i)) t t′ z
 made-as h t s i m z t′ e p = rw e at p
 
 -- whether it was even
@@ -217,7 +219,7 @@ module _ (s t : List ℕ) (r : Reading) (er : r ≡ reading s) where
             reads = read-well;
             count = ap (λ (x : Reading). x .movements) header;
             few = rw header (good s 0 (sym read-well) refl .movements);
-            work = rw fresh (record { long = long; adds-up = k .adds; sized = k .sized; memory = a; aside = omega arith; above = omega arith });
+            work = rw fresh (record { audited = record { long = long; adds-up = k .adds; sized = k .sized }; memory = a; aside = omega arith; above = omega arith });
           }
 
       pub run-whole : (z : Ran) (t′ : List ℕ) → Gives (runFrom 0 0 (o .head) t (transfersOf s)) t′ z → Gives (running s t) t′ z

@@ -3,6 +3,7 @@ ghost use mathlib.Core.Path.{_≡_};
 ghost use Prim.Native.Nat.{_<_, _≤_, _+_};
 ghost use Rattle.refusal.specs.Numbers.{ifZero};
 ghost use Rattle.book.specs.Head.{emptyHead};
+ghost use Rattle.book.specs.Calls.{post};
 ghost use Rattle.posting.specs.Posting.{Posts, Workable};
 ghost use Rattle.sheet.specs.Sheet.{movementsOf, readNumber};
 ghost use Rattle.run.specs.Run.{transferAt, transfersOf, Gives, runFrom, running, Runnable};
@@ -55,7 +56,7 @@ fn make(
     lifted: &mut [u32],
 ) -> Transferred
     requires { ⌜ (readNumber (now sheet) ≡ 0) × (i < movementsOf (now sheet)) × Workable head (now table) (now keys) (now spare) (now lifted) ⌝ }
-    ensures { λ r. ⌜ Posts head (transferAt (now (sheet .entry)) i) (now (table .entry)) (now (table .exit)) r ⌝ }
+    ensures { λ r. ⌜ Posts head (post (transferAt (now (sheet .entry)) i)) (now (table .entry)) (now (table .exit)) r ⌝ }
 {
     let m = sheet::movement_known(sheet, i);
     let x = Transfer {

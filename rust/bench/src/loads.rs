@@ -82,8 +82,8 @@ fn book_of(random: &mut Random, rule: u32, pieces: usize, vessels: u32) -> Full 
 }
 
 impl Full {
-    /// The time of some transfers, one after the other, from this book on, and of a single one. They are
-    /// made by an engine, which gives the next head, or by the second implementation.
+    /// The time of some transfers, one after the other, from this book on, and of a single one. They
+    /// are made by an engine, which gives the next head, or by the second implementation.
     fn time(
         &self,
         engine: Timed,

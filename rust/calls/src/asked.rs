@@ -65,8 +65,8 @@ impl Transfer {
     }
 }
 
-/// What a lift is asked to do: weight from source onto the scale, at a minute. What is born was milled
-/// `age` minutes before, as in a transfer.
+/// What a lift is asked to do: weight from source onto the scale, at a minute. What is born was
+/// milled `age` minutes before, as in a transfer.
 #[derive(Clone, Copy, Debug, PartialEq, Eq)]
 pub struct Lift {
     /// The vessel that gives.

@@ -29,8 +29,8 @@ pub struct Ages {
     pub largest: u64,
     /// Births under rules 2 and 3 before those of all pieces in the table.
     pub earliest: u64,
-    /// Births under rules 2 and 3 at that of a piece in the same vessel, received at an earlier minute.
-    /// The scale has no piece before a lift.
+    /// Births under rules 2 and 3 at that of a piece in the same vessel, received at an earlier
+    /// minute. The scale has no piece before a lift.
     pub equal: u64,
     /// Picks under rules 2 and 3 from pieces whose births do not go up in order of receipt.
     pub behind: u64,
@@ -83,8 +83,8 @@ impl Ages {
         }
     }
 
-    /// Fails unless each count of transfers is so high; ages above the minute were met by transfers that
-    /// give each of these numbers at age 0.
+    /// Fails unless each count of transfers is so high; ages above the minute were met by transfers
+    /// that give each of these numbers at age 0.
     pub fn expect(&self, above: &[u32], at_least: u64) {
         self.expect_of_lifts(above, at_least);
         assert!(self.equal >= at_least, "{self:?}");

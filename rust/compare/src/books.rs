@@ -16,8 +16,8 @@ pub fn book(random: &mut Random, rule: u32, length: usize) -> (Head, Vec<u32>) {
     filled(random, rule, length, loaded)
 }
 
-/// As `book`, with weight on the scale wherever there is a place for it. The scale's pieces lie in any
-/// order among the others.
+/// As `book`, with weight on the scale wherever there is a place for it. The scale's pieces lie in
+/// any order among the others.
 pub fn loaded_book(random: &mut Random, rule: u32, length: usize) -> (Head, Vec<u32>) {
     filled(random, rule, length, true)
 }
@@ -32,45 +32,45 @@ fn filled(random: &mut Random, rule: u32, length: usize, loaded: bool) -> (Head,
         ..Head::ZERO
     };
     let some = random.below(places + 1);
-    let mut count = random.one_of(&[places, places.saturating_sub(1), some]);
+    let count = random.one_of(&[places, places.saturating_sub(1), some]);
+    let count = count.max(u32::from(loaded)).min(places) as usize;
     let heavy = random.once_in(4);
     // One of so many pieces is on the scale, and one in any case.
     let share = random.one_of(&[1, 2, 3, 8]);
-    if loaded {
-        count = count.max(places.min(1));
-    }
-    let certain = random.index(count.max(1) as usize);
+    let certain = random.index(count.max(1));
     // The most that a birth lies before the last minute: ages give any.
     let oldest = random.one_of(&[3, 3, 3, 100_000]).min(head.last);
-    let places = table.chunks_exact_mut(4).take(count as usize);
-    for (i, place) in places.enumerate() {
+    for (i, place) in table.chunks_exact_mut(4).take(count).enumerate() {
         let mut holder = random.below(head.vessels);
         if loaded && (i == certain || random.once_in(share)) {
             holder = SCALE;
         }
-        let balance = balance_of(&mut head, holder);
-        let free = TOP - *balance;
+        let free = TOP - *balance_of(&mut head, holder);
         if free == 0 {
             break;
         }
-        let weight = random.from_to(1, if heavy { free } else { free.min(9) });
-        *balance += weight;
         let piece = Piece {
             holder,
             origin: random.below(head.vessels),
             birth: head.last - random.below(oldest + 1),
-            weight,
+            weight: random.from_to(1, if heavy { free } else { free.min(9) }),
         };
+        *balance_of(&mut head, holder) += piece.weight;
         place.copy_from_slice(&piece.numbers());
         head.pieces += 1;
     }
-    head.accepted = match random.below(20) {
+    head.accepted = accepted(random, head.pieces);
+    (head, table)
+}
+
+/// A count of accepted transfers and lifts that so many pieces can come from.
+fn accepted(random: &mut Random, pieces: u32) -> u32 {
+    match random.below(20) {
         0 => TOP,
         1 => TOP - 1,
-        2..=9 => head.pieces,
-        _ => head.pieces + random.below(1000),
-    };
-    (head, table)
+        2..=9 => pieces,
+        _ => pieces + random.below(1000),
+    }
 }
 
 /// The balance of a holder: one of the vessels, or the scale.

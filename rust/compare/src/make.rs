@@ -51,9 +51,9 @@ fn minute(random: &mut Random, last: u32) -> u32 {
     }
 }
 
-/// An age for a transfer or lift at a minute: mostly 0 or small. Else it makes the birth one of these earlier
-/// ones or its neighbour, or puts it before all of them, at minute 0 or just before that; or it is the
-/// largest, or any.
+/// An age for a transfer or lift at a minute: mostly 0 or small. Else it makes the birth one of these
+/// earlier ones or its neighbour, or puts it before all of them, at minute 0 or just before that; or
+/// it is the largest, or any.
 fn age(random: &mut Random, minute: u32, births: impl Iterator<Item = u32>) -> u16 {
     let age = match random.below(32) {
         0..=4 => {
@@ -189,8 +189,8 @@ fn weighed_tip(random: &mut Random, book: &WeighBook) -> Tip {
     }
 }
 
-/// A list of calls for a book of so many vessels. It is made without regard to a rule. A lift is mostly
-/// tipped soon, so that few of the other calls meet a loaded scale.
+/// A list of calls for a book of so many vessels. It is made without regard to a rule. A lift is
+/// mostly tipped soon, so that few of the other calls meet a loaded scale.
 pub fn call_list(random: &mut Random, vessels: u32, length: usize) -> Vec<Call> {
     let mut book = WeighBook::new(vessels);
     let mut call = || match random.below(20) {

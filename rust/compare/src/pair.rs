@@ -29,8 +29,8 @@ where
     answer
 }
 
-/// The answer of a transfer or lift at age 0, beside the one at its own age: they come to the same, but
-/// for 21 and the birth of what is born.
+/// The answer of a transfer or lift at age 0, beside the one at its own age: they come to the same,
+/// but for 21 and the birth of what is born.
 fn beside_young(
     before: &[u32],
     table: &[u32],
@@ -113,8 +113,8 @@ impl Pair {
         })
     }
 
-    /// A transfer or a lift, by the call that makes it. Beside the comparison: a refusal changes nothing,
-    /// and nothing is written behind the last piece.
+    /// A transfer or a lift, by the call that makes it. Beside the comparison: a refusal changes
+    /// nothing, and nothing is written behind the last piece.
     fn moving(
         &mut self,
         name: &'static str,

@@ -37,8 +37,8 @@ pub fn open(rule: u32, vessels: u32) -> Result<Head, Refusal> {
 }
 
 /// Transfers weight from one vessel to another. What the source lacks is born there; it was milled
-/// `age` minutes before, so that its birth minute is `minute - age`. A refused transfer leaves head and
-/// table as they are.
+/// `age` minutes before, so that its birth minute is `minute - age`. A refused transfer leaves head
+/// and table as they are.
 ///
 /// # Errors
 /// The refusals 1, 4, 22, 5 to 8, 21 and 9 to 11, the first that applies in this order.
@@ -47,9 +47,9 @@ pub fn transfer(head: &mut Head, table: &mut [u32], transfer: Transfer) -> Resul
     moved(head, answer)
 }
 
-/// Lifts weight from a vessel onto the scale: the first half of a transfer, which counts as one. What the
-/// source lacks is born there, as in a transfer. Until the scale is tipped no other transfer, lift or
-/// report is accepted. A refused lift leaves head and table as they are.
+/// Lifts weight from a vessel onto the scale: the first half of a transfer, which counts as one. What
+/// the source lacks is born there, as in a transfer. Until the scale is tipped no other transfer,
+/// lift or report is accepted. A refused lift leaves head and table as they are.
 ///
 /// # Errors
 /// The refusals 1, 4, 22, 5, 7, 8, 21, 10 and 11, the first that applies in this order.
@@ -58,9 +58,9 @@ pub fn lift(head: &mut Head, table: &mut [u32], lift: Lift) -> Result<Moved, Ref
     moved(head, answer)
 }
 
-/// Tips all that is on the scale into a vessel, which may be the one that it was lifted from: the second
-/// half of a transfer, which does not count. A refused tip leaves head and table as they are, and the
-/// scale loaded.
+/// Tips all that is on the scale into a vessel, which may be the one that it was lifted from: the
+/// second half of a transfer, which does not count. A refused tip leaves head and table as they are,
+/// and the scale loaded.
 ///
 /// # Errors
 /// The refusals 1, 4, 23, 5, 8 and 9, the first that applies in this order.

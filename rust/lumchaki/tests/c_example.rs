@@ -3,7 +3,7 @@
 use std::path::Path;
 use std::process::Command;
 
-/// The weighing; the pieces of the six movements and the delivery of older flour, whose birth is 9 - 7,
+/// The weighing; the pieces of the six movements and of the delivery of older flour, born at 9 - 7,
 /// with what was weighed in vessel 1; then the report.
 const OUTPUT: &str = "\
 3 g on the scale

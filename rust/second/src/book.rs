@@ -164,8 +164,8 @@ impl Book {
         None
     }
 
-    /// Whether taking weight from a vessel splits or bears and no place is free. Only a full table needs
-    /// to know beforehand how it will come out.
+    /// Whether taking weight from a vessel splits or bears and no place is free. Only a full table
+    /// needs to know beforehand how it will come out.
     fn no_place(&self, source: usize, weight: u32) -> bool {
         self.pieces == self.places
             && self.balances[source] != weight.into()

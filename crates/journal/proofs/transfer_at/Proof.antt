@@ -1,79 +1,39 @@
 -- `transfer_at` meets its contract: the numbers that lie from an index on.
 -- Assumes nothing.
-use lib.Seq.{getD-drop}
+use Rattle.journal.proofs.Carrying.{transfer-read}
 use borrow.Author.Needs.{needs}
 use Rattle.journal.proofs.transfer_at.Statement.{statement}
 use Rattle.journal.proofs.transfer_at.Tie as tie
 
-add-t3 : tie.Need-add-t3
-add-t3 c = search needs
+number-at-requires : tie.Need-number-at-requires
+number-at-requires c κs = search needs
 
-mul-t4 : tie.Need-mul-t4
-mul-t4 c = search needs
+number-at-requires-2 : tie.Need-number-at-requires-2
+number-at-requires-2 c κs = search needs
 
-shared-slice-read-t6 : tie.Need-shared-slice-read-t6
-shared-slice-read-t6 c = search needs
+number-at-requires-3 : tie.Need-number-at-requires-3
+number-at-requires-3 c κs = search needs
 
-add-t7 : tie.Need-add-t7
-add-t7 c = search needs
+number-at-requires-4 : tie.Need-number-at-requires-4
+number-at-requires-4 c κs = search needs
 
-mul-t8 : tie.Need-mul-t8
-mul-t8 c = search needs
+number-at-requires-5 : tie.Need-number-at-requires-5
+number-at-requires-5 c κs = search needs
 
-shared-slice-read-t10 : tie.Need-shared-slice-read-t10
-shared-slice-read-t10 c = search needs
-
-add-t11 : tie.Need-add-t11
-add-t11 c = search needs
-
-mul-t12 : tie.Need-mul-t12
-mul-t12 c = search needs
-
-shared-slice-read-t14 : tie.Need-shared-slice-read-t14
-shared-slice-read-t14 c = search needs
-
-add-t15 : tie.Need-add-t15
-add-t15 c = search needs
-
-mul-t16 : tie.Need-mul-t16
-mul-t16 c = search needs
-
-shared-slice-read-t18 : tie.Need-shared-slice-read-t18
-shared-slice-read-t18 c = search needs
-
-add-t19 : tie.Need-add-t19
-add-t19 c = search needs
-
-mul-t20 : tie.Need-mul-t20
-mul-t20 c = search needs
-
-shared-slice-read-t22 : tie.Need-shared-slice-read-t22
-shared-slice-read-t22 c = search needs
-
-cast-t23 : tie.Need-cast-t23
-cast-t23 c = search needs
+cast-t8 : tie.Need-cast-t8
+cast-t8 c = search needs
 
 returns : tie.Need-returns
-returns c = search (needs, getD-drop)
+returns c = search (needs, transfer-read)
 
 pub transfer-at-spec : {M : Type 1} → statement M
 transfer-at-spec =
     tie.close
     (tie.spec
-    add-t3
-    mul-t4
-    shared-slice-read-t6
-    add-t7
-    mul-t8
-    shared-slice-read-t10
-    add-t11
-    mul-t12
-    shared-slice-read-t14
-    add-t15
-    mul-t16
-    shared-slice-read-t18
-    add-t19
-    mul-t20
-    shared-slice-read-t22
-    cast-t23
+    number-at-requires
+    number-at-requires-2
+    number-at-requires-3
+    number-at-requires-4
+    number-at-requires-5
+    cast-t8
     returns)

@@ -1,6 +1,7 @@
--- `transfer` meets its contract: refused by 1 or 4, or what `transfer_known` promises, with memory of its own to work in.
+-- `transfer` meets its contract: refused by 1 or 4, or what `transfer_audited` promises.
 -- Assumes nothing.
-use Rattle.posting.proofs.Next.{posts-off, workable}
+use Rattle.posting.proofs.Next.{audited}
+use Rattle.posting.proofs.Posted.{posts-off}
 use borrow.Author.Needs.{needs}
 use Rattle.posting.proofs.transfer.Statement.{statement}
 use Rattle.posting.proofs.transfer.Tie as tie
@@ -17,17 +18,8 @@ same-length c = search needs
 returns : tie.Need-returns
 returns c = search (needs, posts-off)
 
-slice-aggregate-transfer-known : tie.Need-slice-aggregate-transfer-known
-slice-aggregate-transfer-known c = search needs
-
-slice-aggregate-transfer-known-2 : tie.Need-slice-aggregate-transfer-known-2
-slice-aggregate-transfer-known-2 c = search needs
-
-slice-aggregate-transfer-known-3 : tie.Need-slice-aggregate-transfer-known-3
-slice-aggregate-transfer-known-3 c = search needs
-
-transfer-known-requires : tie.Need-transfer-known-requires
-transfer-known-requires c κs = search (needs, workable)
+transfer-audited-requires : tie.Need-transfer-audited-requires
+transfer-audited-requires c κs = search (needs, audited)
 
 same-length-2 : tie.Need-same-length-2
 same-length-2 c = search needs
@@ -43,9 +35,6 @@ transfer-spec =
     refused-requires
     same-length
     returns
-    slice-aggregate-transfer-known
-    slice-aggregate-transfer-known-2
-    slice-aggregate-transfer-known-3
-    transfer-known-requires
+    transfer-audited-requires
     same-length-2
     returns-2)

@@ -14,8 +14,8 @@ answer-requires c κs = search needs
 returns : tie.Need-returns
 returns c = let audited = c .before .before in asked-off _ _ _ _ _ (audited .refusal-of .ensures) (c .before .if1 .taken) _ (c .answer .ensures)
 
-refusal-to-requires : tie.Need-refusal-to-requires
-refusal-to-requires c κs = search needs
+refusal-on-requires : tie.Need-refusal-on-requires
+refusal-on-requires c κs = search needs
 
 answer-requires-2 : tie.Need-answer-requires-2
 answer-requires-2 c κs = search needs
@@ -24,7 +24,7 @@ returns-2 : tie.Need-returns-2
 returns-2 c =
     let checked = c .before .before in
     let audited = checked .before .before in
-    asked-refused _ _ _ _ _ _ (audited .refusal-of .ensures) (checked .before .if1 .left) (checked .refusal-to .ensures) (c .before .if2 .taken) _ (c .answer2 .ensures)
+    asked-refused _ _ _ _ _ _ (audited .refusal-of .ensures) (checked .before .if1 .left) (checked .refusal-on .ensures) (c .before .if2 .taken) _ (c .answer2 .ensures)
 
 cast-n : tie.Need-cast-n
 cast-n c = search needs
@@ -34,7 +34,7 @@ fill-requires c κs =
     let fit = c .before .before in
     let checked = fit .before in
     let audited = checked .before .before in
-    asked-ready _ _ _ _ _ _ (audited .refusal-of .ensures) (checked .before .if1 .left) (checked .refusal-to .ensures) (fit .if2 .left)
+    asked-ready _ _ _ _ _ _ (audited .refusal-of .ensures) (checked .before .if1 .left) (checked .refusal-on .ensures) (fit .if2 .left)
 
 answer-requires-3 : tie.Need-answer-requires-3
 answer-requires-3 c κs = search needs
@@ -48,7 +48,7 @@ returns-3 c =
     let fit = filled .before .before .before in
     let checked = fit .before in
     let audited = checked .before .before in
-    asked-accepted _ _ _ _ _ _ (audited .refusal-of .ensures) (checked .before .if1 .left) (checked .refusal-to .ensures) (fit .if2 .left) _ (c .answer3 .ensures) _ (filled .fill .ensures)
+    asked-accepted _ _ _ _ _ _ (audited .refusal-of .ensures) (checked .before .if1 .left) (checked .refusal-on .ensures) (fit .if2 .left) _ (c .answer3 .ensures) _ (filled .fill .ensures)
 
 pub report-spec : {M : Type 1} → statement M
 report-spec =
@@ -57,7 +57,7 @@ report-spec =
     refusal-of-requires
     answer-requires
     returns
-    refusal-to-requires
+    refusal-on-requires
     answer-requires-2
     returns-2
     cast-n

@@ -4,8 +4,8 @@ use super::{guarded, Pair};
 use calls::{places, Engine, Head, Lift, Piece, Tip, Tipped, Transferred, SCALE};
 use second::Second;
 
-/// The pieces after an accepted tip, in the words of document 02: those on the scale leave it in the order
-/// they lie and join the end.
+/// The pieces after an accepted tip, in the words of document 02: those on the scale leave it in the
+/// order they lie and join the end.
 fn after_tip(head: &Head, table: &[u32], destination: u32) -> Vec<Piece> {
     let (lifted, mut pieces): (Vec<Piece>, Vec<Piece>) =
         Piece::all(head, table).partition(|p| p.holder == SCALE);
@@ -34,8 +34,8 @@ impl Pair {
         answer
     }
 
-    /// A tip. An accepted one moves the scale's pieces behind the others and changes nothing else in the
-    /// head than the two balances and the last minute; a refused one changes nothing.
+    /// A tip. An accepted one moves the scale's pieces behind the others and changes nothing else in
+    /// the head than the two balances and the last minute; a refused one changes nothing.
     pub fn tip(&mut self, head: Head, table: &mut [u32], t: Tip) -> Tipped {
         let before = table.to_vec();
         let answer = guarded(table, 0xdead_beef, |table| self.subject.tip(head, table, t));

@@ -1,5 +1,5 @@
-//! The laws of demand 3, checked while lists of transfers, lifts, tips and reports run: on one fresh book,
-//! under all four rules.
+//! The laws of demand 3, checked while lists of transfers, lifts, tips and reports run: on one fresh
+//! book, under all four rules.
 
 use calls::{Engine, Head, Lift, Piece, Transferred, SCALE};
 use compare::{call_list, room, subjects, Call, Pair, Random};
@@ -27,7 +27,8 @@ struct Covered {
     full: u32,
 }
 
-/// The pieces, in every vessel and on the scale, sum to what the weigh book has there; so do the births.
+/// The pieces, in every vessel and on the scale, sum to what the weigh book has there; so do the
+/// births.
 fn check_sums(head: &Head, table: &[u32], weighed: &WeighBook) {
     let mut weights = vec![0; head.vessels as usize];
     let mut scale = 0;
@@ -65,7 +66,28 @@ struct Followed<'p> {
     born_at: BTreeMap<(u32, u32), u32>,
 }
 
-impl Followed<'_> {
+impl<'p> Followed<'p> {
+    fn open(
+        pair: &'p mut Pair,
+        covered: &'p mut Covered,
+        (rule, vessels): (u32, u32),
+        table: Vec<u32>,
+    ) -> Followed<'p> {
+        let places = calls::places(&table);
+        Followed {
+            head: pair.open(rule, vessels).head,
+            pair,
+            covered,
+            table,
+            book: Book::open(rule, vessels, places).expect("opening was accepted"),
+            weighed: WeighBook::new(vessels),
+            even: 0,
+            accepted: 0,
+            numbers: Vec::new(),
+            born_at: BTreeMap::new(),
+        }
+    }
+
     /// Notes the answer of a transfer or a lift, and what following it came to.
     fn note(&mut self, lift: Lift, answer: &Transferred, follow: impl FnOnce(&mut Self) -> Moved) {
         self.head = answer.head;
@@ -146,28 +168,7 @@ impl Followed<'_> {
 }
 
 /// Runs a list and gives the number of every transfer, lift and tip.
-fn follow(
-    pair: &mut Pair,
-    random: &mut Random,
-    (rule, vessels): (u32, u32),
-    length: usize,
-    list: &[Call],
-    covered: &mut Covered,
-) -> Vec<u32> {
-    let table = room(random, length);
-    let places = calls::places(&table);
-    let mut followed = Followed {
-        head: pair.open(rule, vessels).head,
-        pair,
-        covered,
-        table,
-        book: Book::open(rule, vessels, places).expect("opening was accepted"),
-        weighed: WeighBook::new(vessels),
-        even: 0,
-        accepted: 0,
-        numbers: Vec::new(),
-        born_at: BTreeMap::new(),
-    };
+fn follow(mut followed: Followed, random: &mut Random, list: &[Call]) -> Vec<u32> {
     for call in list {
         followed.call(random, call);
     }
@@ -190,8 +191,8 @@ fn follow(
     numbers
 }
 
-/// What the weigh book alone, fed every transfer, lift and tip, says of each. Beside it whether the call
-/// is a tip.
+/// What the weigh book alone, fed every transfer, lift and tip, says of each. Beside it whether the
+/// call is a tip.
 fn forecast(vessels: u32, list: &[Call]) -> Vec<(u32, bool)> {
     let mut weighed = WeighBook::new(vessels);
     let feed = |call: &Call| match call {
@@ -203,7 +204,8 @@ fn forecast(vessels: u32, list: &[Call]) -> Vec<(u32, bool)> {
     list.iter().filter_map(feed).collect()
 }
 
-/// The forecast, where it is owed: a table of at least 4 numbers has a place for each transfer and lift.
+/// The forecast, where it is owed: a table of at least 4 numbers has a place for each transfer and
+/// lift.
 fn check_forecast(
     vessels: u32,
     length: usize,
@@ -245,8 +247,9 @@ fn laws_of(subject: &'static dyn Engine, rounds: u32) {
         let list = call_list(&mut random, vessels, calls);
         let numbers: Vec<Vec<u32>> = (0..4)
             .map(|rule| {
-                let book = (rule, vessels);
-                follow(&mut pair, &mut random, book, length, &list, &mut covered)
+                let (book, table) = ((rule, vessels), room(&mut random, length));
+                let followed = Followed::open(&mut pair, &mut covered, book, table);
+                follow(followed, &mut random, &list)
             })
             .collect();
         check_forecast(vessels, length, &list, &numbers, &mut covered);

@@ -1,5 +1,5 @@
-//! A transfer against its lift and tip in succession: they leave the same, and it is refused where one of
-//! them would be.
+//! A transfer against its lift and tip in succession: they leave the same, and it is refused where
+//! one of them would be.
 
 use calls::{Engine, Head, Transfer, TOP};
 use compare::{book, subjects, transfer_for, Pair, Random};
@@ -21,8 +21,8 @@ struct Covered {
     back: u32,
 }
 
-/// The number of a transfer by that of its lift, which looks at no destination: 5, 6 and 9 of it come in
-/// their order.
+/// The number of a transfer by that of its lift, which looks at no destination: 5, 6 and 9 of it come
+/// in their order.
 fn by_lift(lift: u32, head: &Head, t: Transfer) -> u32 {
     if [1, 4, 22, 5].contains(&lift) {
         return lift;
@@ -41,8 +41,8 @@ fn by_lift(lift: u32, head: &Head, t: Transfer) -> u32 {
 }
 
 impl Covered {
-    /// Makes a transfer on one copy of a book and divides it on another. The next head comes back, and
-    /// the table is as the transfer leaves it.
+    /// Makes a transfer on one copy of a book and divides it on another. The next head comes back,
+    /// and the table is as the transfer leaves it.
     fn check(&mut self, pair: &mut Pair, head: Head, table: &mut [u32], t: Transfer) -> Head {
         let mut divided = table.to_vec();
         let transferred = pair.transfer(head, table, t);

@@ -47,8 +47,8 @@ impl Due {
     }
 }
 
-/// A book of 4 pieces in 3 vessels, with 2 places to spare. A loaded one has a fifth piece among them, of
-/// 9 grams on the scale.
+/// A book of 4 pieces in 3 vessels, with 2 places to spare. A loaded one has a fifth piece among
+/// them, of 9 grams on the scale.
 pub fn small_book(rule: u32, loaded: bool) -> (Head, Vec<u32>) {
     let mut pieces = vec![[0, 1, 2, 5], [1, 2, 3, 6], [0, 2, 3, 7], [2, 0, 1, 8]];
     let mut head = Head {
@@ -69,8 +69,8 @@ pub fn small_book(rule: u32, loaded: bool) -> (Head, Vec<u32>) {
     (head, table)
 }
 
-/// Fault 1 cuts the table. Fault 4 has, by its form, one gram too many in a balance, one too many on the
-/// scale, or the scale said to be bare while it is loaded and the other way round.
+/// Fault 1 cuts the table. Fault 4 has, by its form, one gram too many in a balance, one too many on
+/// the scale, or the scale said to be bare while it is loaded and the other way round.
 pub fn damage_book(set: &[u32], form: usize, head: &mut Head, table: &mut Vec<u32>) {
     for fault in set {
         match (fault, form % 3) {

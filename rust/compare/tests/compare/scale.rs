@@ -53,8 +53,8 @@ const DIVIDED: [ScaleVector; 4] = [
             &[[0, 1, 1, 2], [0, 2, 2, 1], [0, 1, 1, 2], [1, 2, 2, 2]],
         ],
     ),
-    // Of 5 g vessel 0 has 2; 3 are born there, milled 7 minutes before the lift. A second lift picks by
-    // those births.
+    // Of 5 g vessel 0 has 2; 3 are born there, milled 7 minutes before the lift. A second lift picks
+    // by those births.
     (
         &[
             Call::Move(Transfer::new([1, 0, 5, 2])),

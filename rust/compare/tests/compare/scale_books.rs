@@ -40,15 +40,15 @@ impl Tips {
     }
 }
 
-/// A book, what was done with it, and what that came to.
-struct Shift<'p> {
+/// Lifts and tips on books, and what they came to.
+struct Weighing<'p> {
     pair: &'p mut Pair,
     random: Random,
     moves: Moves,
     tips: Tips,
 }
 
-impl Shift<'_> {
+impl Weighing<'_> {
     /// A lift, and the head after it.
     fn lift(&mut self, head: Head, table: &mut [u32]) -> Head {
         let lift = lift_for(&mut self.random, &head, table);
@@ -101,7 +101,7 @@ impl Shift<'_> {
 
 fn lifts_and_tips_of(subject: &'static dyn Engine) {
     let mut pair = Pair::new(subject);
-    let mut shift = Shift {
+    let mut weighing = Weighing {
         pair: &mut pair,
         random: Random::new(81),
         moves: Moves::default(),
@@ -110,11 +110,11 @@ fn lifts_and_tips_of(subject: &'static dyn Engine) {
     for round in 0..300 {
         for &length in &lengths() {
             let of = if round % 8 < 4 { book } else { loaded_book };
-            let book = of(&mut shift.random, round % 4, length);
-            shift.calls(book, 4);
+            let book = of(&mut weighing.random, round % 4, length);
+            weighing.calls(book, 4);
         }
     }
-    let Shift { moves, tips, .. } = shift;
+    let Weighing { moves, tips, .. } = weighing;
     let ages = &pair.lift_ages;
     pair.tally.print(&format!(
         "lifts and tips, {} {moves:?} {tips:?} {ages:?}",
@@ -144,7 +144,7 @@ fn lifts_and_tips_on_books_that_add_up() {
 fn lifts_and_tips_on_long_tables() {
     for subject in subjects() {
         let mut pair = Pair::new(subject);
-        let mut shift = Shift {
+        let mut weighing = Weighing {
             pair: &mut pair,
             random: Random::new(82),
             moves: Moves::default(),
@@ -154,12 +154,12 @@ fn lifts_and_tips_on_long_tables() {
         for round in 0..32 {
             for &length in &LONG {
                 let of = if round % 8 < 4 { book } else { loaded_book };
-                let book = of(&mut shift.random, round % 4, length);
-                let head = shift.calls(book, 6);
+                let book = of(&mut weighing.random, round % 4, length);
+                let head = weighing.calls(book, 6);
                 full += u32::from(head.pieces == 4096);
             }
         }
-        let tips = shift.tips;
+        let tips = weighing.tips;
         pair.tally.print(&format!(
             "lifts and tips on long tables, {} ({full} full ones) {tips:?}",
             pair.label()

@@ -123,6 +123,53 @@ fn scale_is_no_vessel() {
     }
 }
 
+/// Pieces in a book of two vessels at minute 0, the scale's balance, and whether they add up.
+type Load = (&'static [[u32; 4]], u32, bool);
+
+const LOADS: [Load; 14] = [
+    (&[[64, 0, 0, 5]], 5, true),
+    (&[[64, 0, 0, 5]], 4, false),
+    (&[[64, 0, 0, 5]], 6, false),
+    (&[[64, 0, 0, 5]], 0, false),
+    (&[[64, 1, 0, 2], [1, 0, 0, 7], [64, 0, 0, 3]], 5, true),
+    (&[[1, 0, 0, 5]], 0, true),
+    (&[[1, 0, 0, 5]], 5, false),
+    (&[[65, 0, 0, 5]], 5, false),
+    (&[[65, 0, 0, 5]], 0, false),
+    (&[[64, 64, 0, 5]], 5, false),
+    (&[[64, 0, 1, 5]], 5, false),
+    (&[[64, 0, 0, 0]], 0, false),
+    // 2^32 more than the balance.
+    (&[[64, 0, 0, TOP], [64, 1, 0, 6]], 5, false),
+    (&[[64, 0, 0, TOP], [64, 1, 0, 1]], 0, false),
+];
+
+#[test]
+fn scales_that_add_up_and_others() {
+    for engine in engines() {
+        for (rule, (pieces, scale, adds_up)) in (0..4).flat_map(|r| LOADS.map(|load| (r, load))) {
+            let mut desk = Desk::open(engine, rule, 2);
+            desk.table[..4 * pieces.len()].copy_from_slice(&pieces.concat());
+            desk.head.pieces = pieces.len() as u32;
+            desk.head.accepted = 9;
+            desk.head.scale = scale;
+            let held = pieces.iter().filter(|p| p[0] == 1);
+            desk.head.balances[1] = held.map(|p| p[3]).sum();
+            let unless_off = |number| if adds_up { number } else { 4 };
+            let loaded = unless_off(if scale > 0 { LOADED } else { 0 });
+            let bare = unless_off(if scale > 0 { 0 } else { BARE });
+            assert_eq!(desk.reports(), [loaded; 3], "{pieces:?} {scale}");
+            // Each on the book as it was.
+            let (head, table) = (desk.head, desk.table);
+            assert_eq!(desk.transfer([0, 1, 0, 1]), loaded);
+            (desk.head, desk.table) = (head, table);
+            assert_eq!(desk.lift(Lift::new([0, 0, 1])), loaded);
+            (desk.head, desk.table) = (head, table);
+            assert_eq!(desk.tip(Tip::new([1, 0])), bare);
+        }
+    }
+}
+
 /// The weigh book has the scale as one more place and gives 22 and 23 by its own weight there.
 #[test]
 fn weigh_book_with_a_scale() {

@@ -55,8 +55,8 @@ fn lifts() {
     }
 }
 
-/// A tip of 9 grams with these faults, and the book that it is made on. By its form the destination is
-/// as full as can be without 9 or just as before, and with 9 by one gram too full or by all.
+/// A tip of 9 grams with these faults, and the book that it is made on. By its form the destination
+/// is as full as can be without 9 or just as before, and with 9 by one gram too full or by all.
 fn tip_with(set: &[u32], form: usize) -> (Head, Vec<u32>, Tip) {
     let has = |fault| set.contains(&fault);
     let (mut head, mut table) = small_book(form as u32 % 4, !has(23));

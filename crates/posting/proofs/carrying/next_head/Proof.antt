@@ -1,8 +1,8 @@
--- `next_head` meets its contract: two balances are shifted, and three numbers are put.
+-- `carrying::next_head` meets its contract: two balances are shifted, and three numbers are put.
 -- Assumes nothing.
 use borrow.Author.Needs.{needs}
-use Rattle.posting.proofs.next_head.Statement.{statement}
-use Rattle.posting.proofs.next_head.Tie as tie
+use Rattle.posting.proofs.carrying.next_head.Statement.{statement}
+use Rattle.posting.proofs.carrying.next_head.Tie as tie
 
 sub-shift : tie.Need-sub-shift
 sub-shift c = search needs
@@ -17,7 +17,7 @@ add-next : tie.Need-add-next
 add-next c = search needs
 
 returns : tie.Need-returns
-returns c = rw (c .before .before .shift .ensures)
+returns c = rw (c .before .before .before .shift .ensures)
 
 pub next-head-spec : {M : Type 1} → statement M
 next-head-spec = tie.close (tie.spec sub-shift shift-requires cast-next add-next returns)
