@@ -15,4 +15,5 @@ pub mod Marked
 pub mod Ages
 pub mod InWords
 pub mod Succession
+pub mod Scale
 pub mod Edges

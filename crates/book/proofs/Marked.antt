@@ -59,7 +59,7 @@ abbrev even : Journal → List ℕ
 even r = evens (r .log) ∷ []
 
 -- the six movements of the published table
-abbrev six : List Transfer
+abbrev pub six : List Transfer
 six = unaged 1 2 1 3 ∷ unaged 2 0 3 5 ∷ unaged 0 1 4 3 ∷ unaged 1 2 5 7 ∷ unaged 2 1 7 2 ∷ unaged 2 0 8 1 ∷ []
 
 -- two lots, and then all of them moved on

@@ -9,11 +9,10 @@ use Rattle.refusal.specs.Numbers.{ifZero}
 use Rattle.refusal.proofs.Numbers.{not-zero}
 use Rattle.table.specs.Table.{mostPlaces, piecesOf, placesOf}
 use Rattle.table.proofs.Table.{places-fit}
-use Rattle.book.specs.Head.{emptyHead}
 use Rattle.book.proofs.Known.{AddsUp, adds-up}
 use Rattle.run.specs.declared.Ran.{Ran}
-use Rattle.run.specs.Run.{Running, Gives, ended, runNumber, running}
-use Rattle.run.proofs.RunTheorem.{run-theorem}
+use Rattle.run.specs.Run.{Running, Gives, runNumber, running}
+use Rattle.run.proofs.RunTheorem.{refused-run, run-theorem}
 use Rattle.listing.specs.Listing.{Listed, listingText, bookText, refusedLine, listingOf, sheetListing, roomFor, listingRoom}
 
 few-places : (t : List ℕ) → placesOf t ≤ mostPlaces
@@ -26,10 +25,6 @@ pub record Fitting (r : Running) : Type 0 where
   pub few : r .answer .head .pieces ≤ mostPlaces
 
 module _ (s t : List ℕ) where
-  refused-run : (n : ℕ) → runNumber s t ≡ suc n → running s t ≡ ended (suc n) 0 0 (emptyHead 0 0) t
-  unfolding running
-  refused-run n e = rw e
-
   module _ (e : runNumber s t ≡ 0) where
     abbrev r : Running
     r = running s t
@@ -45,7 +40,7 @@ module _ (s t : List ℕ) where
         pieces-lie = places-fit _ _ _ refl (adds e .few);
         few = omega (arith, adds e .few, few-places ((running s t) .table));
       }
-      go (suc n) e = rw (refused-run n e) (record { pieces-lie = omega arith; few = omega arith })
+      go (suc n) e = rw (refused-run s t n e) (record { pieces-lie = omega arith; few = omega arith })
 
   pub listing-theorem : sheetListing s t ≡ ifZero (runNumber s t) (bookText ((running s t) .answer) (piecesOf ((running s t) .answer .head .pieces) ((running s t) .table))) (refusedLine (runNumber s t))
   unfolding listingText
@@ -54,7 +49,7 @@ module _ (s t : List ℕ) where
       go : (n : ℕ) → runNumber s t ≡ n
           → sheetListing s t ≡ ifZero n (bookText ((running s t) .answer) (piecesOf ((running s t) .answer .head .pieces) ((running s t) .table))) (refusedLine n)
       go zero e = sym (not-zero ((running s t) .answer .head .vessels) _ _ (λ z. omega (arith, adds e .some-vessel)))
-      go (suc n) e = rw (refused-run n e)
+      go (suc n) e = rw (refused-run s t n e)
 
 -- `list_sheet`: the answer and the table are the run's, and there is room for the listing
 module _ (s t t′ : List ℕ) (ran : Ran) (e : Gives (running s t) t′ ran) where

@@ -1,3 +1,2 @@
 pub mod Refusals
-pub mod Next
 pub mod Posted

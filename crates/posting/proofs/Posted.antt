@@ -36,8 +36,9 @@ use Rattle.book.proofs.Checks.{Fit, fit, LiftFit, lift-fit, TipFit, tip-fit}
 use Rattle.book.proofs.Sound.{number, number-of, tip-length, keeps}
 use Rattle.book.proofs.Memory.{number-same, no-place, refused-on, accepted-on, off-number}
 use Rattle.book.proofs.Known.{Known, standing-same}
-use Rattle.posting.specs.Posting.{Posts, Tips, Audited, Carriable, refusedWith, Carries}
-use Rattle.posting.proofs.Next.{work-known, vessels-fit, next-head}
+use Rattle.carrying.specs.Carrying.{Audited, Carriable, refusedWith, Carries}
+use Rattle.posting.specs.Posting.{Posts, Tips}
+use Rattle.carrying.proofs.Next.{work-known, vessels-fit, next-head}
 
 -- a call that is refused with number n
 posts-refusal : (h : Head) (t : List ℕ) (c : Call) (n : ℕ) (z : Transferred) → numberOf h t c ≡ n → (n ≡ 0 → ⊥) → z ≡ refusedWith h n → Posts h c t t z

@@ -1,7 +1,8 @@
 // Posting to a book: transfer, lift and tip, each by its checks, the pieces moved, and the next head.
 ghost use mathlib.Core.Path.{_≡_};
 ghost use Rattle.book.specs.Calls.{post, lift};
-ghost use Rattle.posting.specs.Posting.{Posts, Tips, Audited, Workable};
+ghost use Rattle.carrying.specs.Carrying.{Audited, Workable};
+ghost use Rattle.posting.specs.Posting.{Posts, Tips};
 use book::Head;
 use book::Lift;
 use book::Tip;
@@ -10,7 +11,6 @@ use book::Transfer;
 use book::Transferred;
 use book::audit;
 
-mod carrying; // carrying.rt: a motion carried out
 mod checks; // checks.rt: the checks after 1 and 4
 
 // Rule 0: the pieces on the scale leave it in the order they lie.

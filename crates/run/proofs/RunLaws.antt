@@ -22,7 +22,8 @@ use Rattle.book.specs.Calls.{post, evenOf, meaning}
 use Rattle.book.specs.Memory.{Outcome, outcome, numberOf, callOn}
 use Rattle.book.proofs.Memory.{refused-memory}
 use Rattle.book.proofs.Known.{known-up}
-use Rattle.posting.specs.Posting.{Posts, Workable}
+use Rattle.carrying.specs.Carrying.{Workable}
+use Rattle.posting.specs.Posting.{Posts}
 use Rattle.book.proofs.After.{known-after, length-after, fresh-known}
 use Rattle.sheet.specs.declared.answer.Movement.{Movement}
 use Rattle.sheet.specs.declared.answer.Reading.{Reading}

@@ -1,23 +1,25 @@
 -- A RUN IS THE FOLD OF DOCUMENT 01'S TRANSFERS over the movements read: it ends with the head, the table and the even count that calling
--- the transfers in turn gives, up to and with the first that is refused. So demand 3 holds of it.
+-- the transfers in turn gives, up to and with the first that is refused. So demand 3 holds of it; and nothing is on the scale at its end, as a
+-- sheet knows no lift (`run-bare`).
 -- Assumes nothing.
 use mathlib.Core.Path.{_≡_, refl, sym, ap, _∙_}
 use mathlib.Core.List.{List, [], _∷_, _++_, map}
 use Prim.Native.Nat.{ℕ, zero, suc, _+_, _-_, _≤_}
 use native.Mathlib.Omega.{arith}
 use lib.ListN.{length, take, replicate}
-use Rattle.refusal.specs.Numbers.{ifZero}
+use Rattle.refusal.specs.Numbers.{first, ifZero}
 use Rattle.refusal.proofs.Numbers.{first-zero}
 use Rattle.book.specs.declared.Head.{Head}
 use Rattle.book.specs.declared.Transfer.{Transfer}
-use Rattle.book.specs.Head.{opening}
+use Rattle.book.specs.Head.{emptyHead, openChecks, opens, opening}
 use Rattle.book.specs.Calls.{Call, post}
 use Rattle.book.specs.Memory.{Outcome, callOn}
 use Rattle.book.specs.Lists.{callsOn, evens, numbers, Demand3}
 use Rattle.book.proofs.Memory.{refused-memory, refused-even}
 use Rattle.book.proofs.Lists.{demand-3}
+use Rattle.book.proofs.Scale.{post-scale}
 use Rattle.sheet.specs.Sheet.{ruleOf, vesselsOf, movementsOf, readNumber}
-use Rattle.run.specs.Run.{transfersOf, Running, goOn, runFrom, runNumber, running}
+use Rattle.run.specs.Run.{transfersOf, Running, ended, goOn, runFrom, runNumber, running}
 use Rattle.fields.proofs.GroupLaws.{length-groups}
 use Rattle.run.proofs.RunLaws.{opened-well}
 
@@ -112,3 +114,35 @@ module _ (s t : List ℕ) (e : runNumber s t ≡ 0) where
     where
       f : Folds 0 0 (opening (ruleOf s) (vesselsOf s) .head) t (transfersOf s) run
       f = folds (transfersOf s) 0 0 (opening (ruleOf s) (vesselsOf s) .head) t
+
+-- refused by its sheet or by 1: a head of zeros
+pub refused-run : (s t : List ℕ) (n : ℕ) → runNumber s t ≡ suc n → running s t ≡ ended (suc n) 0 0 (emptyHead 0 0) t
+unfolding running
+refused-run s t n e = rw e
+
+-- transfers leave the scale as it was, and a fresh book has nothing on it
+posts-scale : (xs : List Transfer) (h : Head) (t : List ℕ) → (callsOn h t (map post xs)) .head .scale ≡ h .scale
+unfolding callsOn
+posts-scale [] h t = refl
+posts-scale (x ∷ xs) h t = let o = callOn h t (post x) in posts-scale xs (o .head) (o .table) ∙ post-scale h t x
+
+opened-bare : (rule size : ℕ) → (opening rule size) .head .scale ≡ 0
+unfolding opening
+opened-bare rule size = go (first (openChecks rule size))
+  where
+    go : (n : ℕ) → (opens rule size n) .head .scale ≡ 0
+    go zero = refl
+    go (suc n) = refl
+
+-- of every sheet and every table, refused or not
+pub run-bare : (s t : List ℕ) → (running s t) .answer .head .scale ≡ 0
+run-bare s t = go (runNumber s t) refl
+  where
+    fresh : Head
+    fresh = opening (ruleOf s) (vesselsOf s) .head
+
+    go : (n : ℕ) → runNumber s t ≡ n → (running s t) .answer .head .scale ≡ 0
+    go zero e =
+        let f = run-theorem s t e .folded in
+        ap (λ (h : Head). h .scale) (f .head-is) ∙ posts-scale (take (f .tried) (transfersOf s)) fresh t ∙ opened-bare (ruleOf s) (vesselsOf s)
+    go (suc n) e = ap (λ (r : Running). r .answer .head .scale) (refused-run s t n e)

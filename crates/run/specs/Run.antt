@@ -13,7 +13,7 @@ use Rattle.book.specs.Head.{emptyHead, opening}
 use Rattle.book.specs.Transfer.{transferOf}
 use Rattle.book.specs.Calls.{post}
 use Rattle.book.specs.Memory.{Outcome, callOn}
-use Rattle.posting.specs.Posting.{Workable}
+use Rattle.carrying.specs.Carrying.{Workable}
 use Rattle.run.specs.declared.Ran.{Ran}
 use Rattle.fields.specs.Bytes.{groups}
 use Rattle.fields.specs.Movements.{entrySize, entryIn}

@@ -1,6 +1,6 @@
 -- `lift` meets its contract: refused by 1 or 4, or what `lift_audited` promises.
 -- Assumes nothing.
-use Rattle.posting.proofs.Next.{audited}
+use Rattle.carrying.proofs.Next.{audited}
 use Rattle.posting.proofs.Posted.{posts-off}
 use borrow.Author.Needs.{needs}
 use Rattle.posting.proofs.lift.Statement.{statement}

@@ -1,6 +1,6 @@
 -- `tip` meets its contract: refused by 1 or 4, or what `tip_audited` promises.
 -- Assumes nothing.
-use Rattle.posting.proofs.Next.{audited}
+use Rattle.carrying.proofs.Next.{audited}
 use Rattle.posting.proofs.Posted.{tips-off}
 use borrow.Author.Needs.{needs}
 use Rattle.posting.proofs.tip.Statement.{statement}

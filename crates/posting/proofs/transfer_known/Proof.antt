@@ -1,6 +1,6 @@
 -- `transfer_known` meets its contract: refused by a check of its own, or what `carry` promises of its motion.
 -- Assumes nothing.
-use Rattle.posting.proofs.Next.{vessels-fit}
+use Rattle.carrying.proofs.Next.{vessels-fit}
 use Rattle.posting.proofs.Posted.{post-refused, post-in-time, post-carriable, post-done}
 use borrow.Author.Needs.{needs}
 use Rattle.posting.proofs.transfer_known.Statement.{statement}

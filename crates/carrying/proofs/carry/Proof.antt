@@ -1,10 +1,10 @@
--- `carrying::carry` meets its contract: the pieces are moved, or there was no place, and the answer says which.
+-- `carry` meets its contract: the pieces are moved, or there was no place, and the answer says which.
 -- Places: `start` is the function's own, `told` follows the places, `moved` the pieces.
 -- Assumes nothing.
-use Rattle.posting.proofs.Next.{move-ready, move-countable, carries}
+use Rattle.carrying.proofs.Next.{move-ready, move-countable, carries}
 use borrow.Author.Needs.{needs}
-use Rattle.posting.proofs.carrying.carry.Statement.{statement}
-use Rattle.posting.proofs.carrying.carry.Tie as tie
+use Rattle.carrying.proofs.carry.Statement.{statement}
+use Rattle.carrying.proofs.carry.Tie as tie
 
 cast-n : tie.Need-cast-n
 cast-n c = search needs

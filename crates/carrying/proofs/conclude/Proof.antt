@@ -1,8 +1,8 @@
--- `carrying::conclude` meets its contract: full or not picks the case.
+-- `conclude` meets its contract: full or not picks the case.
 -- Assumes nothing.
 use borrow.Author.Needs.{needs}
-use Rattle.posting.proofs.carrying.conclude.Statement.{statement}
-use Rattle.posting.proofs.carrying.conclude.Tie as tie
+use Rattle.carrying.proofs.conclude.Statement.{statement}
+use Rattle.carrying.proofs.conclude.Tie as tie
 
 refused-requires : tie.Need-refused-requires
 refused-requires c κs = search needs

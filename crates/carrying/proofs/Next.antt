@@ -40,7 +40,7 @@ use Rattle.book.proofs.Checks.{Fit, fit, LiftFit, lift-fit, TipFit, tip-fit}
 use Rattle.book.proofs.Sound.{number, number-of, takes-law, held-after, tip-length, keeps}
 use Rattle.book.proofs.Memory.{number-same, no-place, refused-on, accepted-on, off-number, on-number, book-passed}
 use Rattle.book.proofs.Known.{Known, known-up, standing-same}
-use Rattle.posting.specs.Posting.{Posts, Tips, Audited, Workable, Carriable, refusedWith, nextHead, Countable, concluded, Carries}
+use Rattle.carrying.specs.Carrying.{Audited, Workable, Carriable, refusedWith, nextHead, Countable, concluded, Carries}
 
 -- past 1 and 4
 pub audited : (h : Head) (t : List ℕ) (n : ℕ) → (n ≡ first (bookChecks h t)) × Sized h → n ≡ 0 → Audited h t

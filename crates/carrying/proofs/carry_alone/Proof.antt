@@ -1,9 +1,9 @@
--- `carrying::carry_alone` meets its contract: what `carry` promises, with memory of its own to work in.
+-- `carry_alone` meets its contract: what `carry` promises, with memory of its own to work in.
 -- Assumes nothing.
-use Rattle.posting.proofs.Next.{workable}
+use Rattle.carrying.proofs.Next.{workable}
 use borrow.Author.Needs.{needs}
-use Rattle.posting.proofs.carrying.carry_alone.Statement.{statement}
-use Rattle.posting.proofs.carrying.carry_alone.Tie as tie
+use Rattle.carrying.proofs.carry_alone.Statement.{statement}
+use Rattle.carrying.proofs.carry_alone.Tie as tie
 
 slice-aggregate-carry : tie.Need-slice-aggregate-carry
 slice-aggregate-carry c = search needs

@@ -1,8 +1,8 @@
--- `carrying::next_head` meets its contract: two balances are shifted, and three numbers are put.
+-- `next_head` meets its contract: two balances are shifted, and three numbers are put.
 -- Assumes nothing.
 use borrow.Author.Needs.{needs}
-use Rattle.posting.proofs.carrying.next_head.Statement.{statement}
-use Rattle.posting.proofs.carrying.next_head.Tie as tie
+use Rattle.carrying.proofs.next_head.Statement.{statement}
+use Rattle.carrying.proofs.next_head.Tie as tie
 
 sub-shift : tie.Need-sub-shift
 sub-shift c = search needs

@@ -4,7 +4,7 @@ ghost use mathlib.Core.Bool.{false};
 ghost use Prim.Native.Nat.{_≤_};
 ghost use Rattle.book.specs.Transfer.{motionOf};
 ghost use Rattle.book.specs.Scale.{liftMotion, tipMotion};
-ghost use Rattle.posting.specs.Posting.{Audited, Workable, Carriable, refusedWith, nextHead, Countable, concluded, Carries};
+ghost use Rattle.carrying.specs.Carrying.{Audited, Workable, Carriable, refusedWith, nextHead, Countable, concluded, Carries};
 use book::Head;
 use book::Lift;
 use book::Motion;
