@@ -13,7 +13,7 @@ use mir.Val.{Fits}
 use lib.Dec.{ltb, eqb}
 use lib.ListN.{length, getD, set, length-set, length-append, replicate, List·getD-eq-default, List·getD-append}
 use lib.Seq.{ext-getD, getD-set-same, getD-set-other, getD-at, set-at, set-append-left}
-use borrow.Author.Tests.{ltb-true, ltb-false, eqb-true, eqb-false, eq-eqb, ne-eqb}
+use borrow.Author.Tests.{ltb-true, ltb-false, eqb-true, eqb-false, ne-eqb}
 use Rattle.refusal.specs.Numbers.{TOP}
 use Rattle.table.specs.declared.Piece.{Piece}
 use Rattle.table.specs.Pieces.{only, held, All, done, also}

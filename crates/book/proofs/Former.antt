@@ -2,33 +2,29 @@
 -- a piece lie in a vessel only.
 -- Assumes nothing.
 use mathlib.Core.Path.{_≡_, refl, sym, ap, _∙_}
-use mathlib.Core.Logic.{_≢_}
 use mathlib.Core.Bool.{Bool, true, false, _&&_}
 use mathlib.Core.List.{List, [], _∷_}
 use Prim.Native.Nat.{ℕ, _≤_, _<_}
 use native.Mathlib.Omega.{arith}
 use lib.Dec.{leb, ltb, eqb}
-use borrow.Author.Tests.{leb-true, lt-ltb, ltb-true, eq-eqb, eqb-true, ne-eqb}
+use borrow.Author.Tests.{leb-true, lt-ltb, ltb-true, eqb-true, ne-eqb}
 use Rattle.table.specs.declared.Piece.{Piece}
 use Rattle.table.specs.Pieces.{held, All, done, also}
 use Rattle.table.specs.Table.{piecesOf, placesOf}
-use Rattle.table.proofs.Pieces.{all-map}
-use Rattle.picking.proofs.Sweeping.{empty}
 use Rattle.book.specs.declared.Head.{Head}
-use Rattle.book.specs.Head.{lastRule, mostVessels, theScale, balancesOf, allOf, lotFits, fits, every, same, balanced, addsUp}
+use Rattle.book.specs.Head.{lastRule, mostVessels, theScale, isHolder, balancesOf, allOf, lotFits, fits, every, same, addsUp}
 use Rattle.book.specs.Former.{formerFits, formerTests}
-use Rattle.book.proofs.HolderLaws.{vessel-holds, holder-vessel}
-use Rattle.book.proofs.Sound.{SoundPiece}
-use Rattle.book.proofs.HeadLaws.{both, same-test, all-sound}
+use Rattle.book.proofs.HolderLaws.{vessel-holds}
+use Rattle.book.proofs.HeadLaws.{both, same-test, all-sound, in-vessels}
 
 module _ (size last : ℕ) where
   -- pieces that fit, and none of them on the scale
-  bare-former : {ps : List Piece} → All (SoundPiece size last) ps → All (λ p. p .holder ≢ theScale) ps → every (fits size last) ps ≡ true → every (formerFits size last) ps ≡ true
+  bare-former : {ps : List Piece} → All (λ p. p .holder < size) ps → every (fits size last) ps ≡ true → every (formerFits size last) ps ≡ true
   unfolding every
-  bare-former done done e = refl
-  bare-former (also {p = p} {ps = ps} f x) (also n y) e =
+  bare-former done e = refl
+  bare-former (also {p = p} {ps = ps} h x) e =
       let u = both (fits size last p) (every (fits size last) ps) e in
-      rw (lt-ltb _ _ (holder-vessel size _ (f .holder-in) n), both true (lotFits size last p) (rw (f .holder-in) at (u .0)) .1) (bare-former x y (u .1))
+      rw (lt-ltb _ _ h, both (isHolder size (p .holder)) (lotFits size last p) (u .0) .1) (bare-former x (u .1))
 
   -- pieces that all lie in vessels
   former-bare : size ≤ mostVessels → (ps : List Piece) → every (formerFits size last) ps ≡ true → (every (fits size last) ps ≡ true) × (held theScale ps ≡ 0)
@@ -65,9 +61,8 @@ bare-book h t z = go (leb (h .rule) lastRule) (leb 1 (h .vessels)) (leb (h .vess
             let u = both one _ e in
             let k = both level _ (u .1) in
             let w : h .scale ≡ held theScale ps = eqb-true _ _ (both (eqb (h .scale) (held theScale ps)) true (k .1) .0) in
-            let s = all-sound (h .vessels) (h .last) ps (u .0) in
-            let n = empty theScale ps (all-map (λ p f. f .weighty) s) (sym w ∙ z) in
-            rw (bare-former (h .vessels) (h .last) s n (u .0), k .0)
+            let lie = in-vessels (h .vessels) (h .last) ps (all-sound (h .vessels) (h .last) ps (u .0)) (sym w ∙ z) in
+            rw (bare-former (h .vessels) (h .last) lie (u .0), k .0)
 
         back : (other && (level && true)) ≡ true → (one && (level && (eqb (h .scale) (held theScale ps) && true))) ≡ true
         back e =

@@ -1,19 +1,23 @@
--- Laws of the head: the tests by which a book adds up, what each says where it holds and that a sound piece and equal lists pass them;
+-- Laws of the head: the tests by which a book adds up, what each says where it holds and that a sound piece and equal lists pass them; where pieces lie;
 -- and opening: what passes its checks, and its answer by its number.
 -- Assumes nothing.
 use mathlib.Core.Path.{_≡_, refl, sym, _∙_}
+use mathlib.Core.Logic.{_≢_}
 use mathlib.Core.Bool.{Bool, true, false, _&&_}
 use mathlib.Core.List.{List, [], _∷_}
-use Prim.Native.Nat.{ℕ, zero, suc, _≤_}
+use Prim.Native.Nat.{ℕ, zero, suc, _≤_, _<_}
 use lib.Dec.{eqb}
 use borrow.Author.Tests.{le-leb, leb-true, lt-ltb, ltb-true, ltb-false, eq-eqb, eqb-true}
 use Rattle.table.specs.declared.Piece.{Piece}
-use Rattle.table.specs.Pieces.{All, done, also}
+use Rattle.table.specs.Pieces.{held, All, done, also}
+use Rattle.table.proofs.Pieces.{all-map}
+use Rattle.picking.proofs.Sweeping.{none-held}
 use Rattle.refusal.specs.Numbers.{first}
 use Rattle.refusal.proofs.Numbers.{Passed, passed}
 use Rattle.book.specs.declared.Head.{Head}
 use Rattle.book.specs.declared.Opened.{Opened}
-use Rattle.book.specs.Head.{lastRule, mostVessels, allOf, pieceTests, fits, every, same, emptyHead, notOpened, openChecks, opens, opening}
+use Rattle.book.specs.Head.{lastRule, mostVessels, theScale, allOf, pieceTests, fits, every, same, emptyHead, notOpened, openChecks, opens, opening}
+use Rattle.book.proofs.HolderLaws.{holder-vessel}
 use Rattle.book.proofs.Sound.{SoundPiece}
 
 -- each test of the list holds
@@ -69,6 +73,14 @@ module _ (size last : ℕ) where
   unfolding every
   all-sound [] e = done
   all-sound (p ∷ ps) e = let u = both (fits size last p) (every (fits size last) ps) e in also (fit-sound p (u .0)) (all-sound ps (u .1))
+
+-- pieces of which none is on the scale lie in vessels
+pub in-vessels : (size last : ℕ) (ps : List Piece) → All (SoundPiece size last) ps → held theScale ps ≡ 0 → All (λ p. p .holder < size) ps
+in-vessels size last ps s bare = both-of s (none-held theScale ps (all-map (λ p f. f .weighty) s) bare)
+  where
+    both-of : {ps : List Piece} → All (SoundPiece size last) ps → All (λ p. p .holder ≢ theScale) ps → All (λ p. p .holder < size) ps
+    both-of done done = done
+    both-of (also f x) (also n y) = also (holder-vessel size _ (f .holder-in) n) (both-of x y)
 
 -- what a rule and a number of vessels are that pass opening's checks
 pub record Openable (rule size : ℕ) : Type 0 where

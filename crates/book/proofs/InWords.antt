@@ -2,8 +2,7 @@
 -- picked piece joins the end at once, and the answer is what that says; and a tip leaves the pieces elsewhere in their order and those of the
 -- scale, in the order they lay, behind them.
 -- Assumes nothing.
-use mathlib.Core.Path.{_≡_, refl, sym, ap, _∙_}
-use mathlib.Core.Logic.{_≢_}
+use mathlib.Core.Path.{_≡_, refl, sym, _∙_}
 use mathlib.Core.List.{List, [], _∷_, _++_, map, append-nil}
 use Prim.Native.Nat.{ℕ}
 use native.Mathlib.Omega.{arith}
@@ -24,11 +23,11 @@ use Rattle.book.specs.declared.Transfer.{Transfer}
 use Rattle.book.specs.declared.Lift.{Lift}
 use Rattle.book.specs.declared.Tip.{Tip}
 use Rattle.book.specs.declared.Motion.{Motion}
-use Rattle.book.specs.Head.{mostVessels, theScale, bookOf, addsUp}
+use Rattle.book.specs.Head.{theScale, bookOf}
 use Rattle.book.specs.Motion.{ofBook, takes, piecesAfter}
 use Rattle.book.specs.Transfer.{transferChecks, motionOf}
-use Rattle.book.specs.Scale.{liftChecks, tipChecks, liftMotion, asTheyLie}
-use Rattle.book.specs.Calls.{Call, post, lift, tip, Answer, answerOf, tipOn, meaning}
+use Rattle.book.specs.Scale.{liftChecks, liftMotion}
+use Rattle.book.specs.Calls.{Call, post, lift, tip, Answer, tipOn, meaning}
 use Rattle.book.specs.Memory.{numberOf, callOn}
 use Rattle.book.proofs.Checks.{Fit, fit, LiftFit, lift-fit, TipFit, tip-fit}
 use Rattle.book.proofs.Memory.{call-number, on-number, passed-book, book-passed}

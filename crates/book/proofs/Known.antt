@@ -4,7 +4,7 @@
 use mathlib.Core.Path.{_≡_, refl, sym, _∙_}
 use mathlib.Core.Bool.{true}
 use mathlib.Core.List.{List}
-use Prim.Native.Nat.{ℕ, _*_, _≤_, _<_}
+use Prim.Native.Nat.{ℕ, _*_, _≤_}
 use lib.ListN.{length, drop}
 use borrow.Author.Tests.{leb-true, eqb-true}
 use Rattle.table.specs.declared.Piece.{Piece}

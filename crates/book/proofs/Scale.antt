@@ -7,12 +7,12 @@ use mathlib.Core.Path.{_≡_, refl, sym, ap, _∙_}
 use mathlib.Core.Logic.{_≢_}
 use mathlib.Core.Bool.{Bool, true, false, _&&_}
 use mathlib.Core.List.{List, [], _∷_, _++_, map}
-use Prim.Native.Nat.{ℕ, zero, suc, _+_, _-_, _≤_, _<_}
+use Prim.Native.Nat.{ℕ, zero, suc, _+_, _-_, _<_}
 use native.Mathlib.Nat.{add-zero}
 use native.Mathlib.Omega.{arith}
 use lib.Dec.{eqb}
-use lib.ListN.{length, take, replicate}
-use borrow.Author.Tests.{lt-ltb, ne-eqb, eqb-true}
+use lib.ListN.{take, replicate}
+use borrow.Author.Tests.{lt-ltb, ne-eqb}
 use Rattle.table.specs.Pieces.{only, held}
 use Rattle.table.specs.Table.{piecesOf, flat, placesOf}
 use Rattle.picking.specs.Selection.{precedes}
@@ -23,17 +23,15 @@ use Rattle.book.specs.declared.Transfer.{Transfer}
 use Rattle.book.specs.declared.Lift.{Lift}
 use Rattle.book.specs.declared.Tip.{Tip}
 use Rattle.book.specs.declared.Report.{Report}
-use Rattle.book.specs.declared.Report.the-variants.{Held}
-use Rattle.book.specs.Head.{mostVessels, theScale, headOf, bookOf, tab, balancesOf, every, same, addsUp, opening}
+use Rattle.book.specs.Head.{theScale, bookOf, tab, balancesOf, every, same, addsUp, opening}
 use Rattle.book.specs.Motion.{takes}
 use Rattle.book.specs.Transfer.{transferOf, transferChecks, motionOf}
 use Rattle.book.specs.Scale.{liftOf, tipOf, liftPart, tipPart, liftChecks, tipChecks, tipMotion}
-use Rattle.book.specs.Reports.{reportChecks}
-use Rattle.book.specs.Calls.{Call, post, lift, tip, ask, meaning}
-use Rattle.book.specs.Memory.{Outcome, outcome, bookChecks, numberOf, callOn}
+use Rattle.book.specs.Calls.{Call, post, lift, tip, ask}
+use Rattle.book.specs.Memory.{Outcome, bookChecks, numberOf, callOn}
 use Rattle.book.specs.WeighBook.{WeighBook, weighed}
 use Rattle.book.specs.Lists.{Journal, callsOn, numbers}
-use Rattle.book.proofs.Memory.{call-number, accepted-on, refused-on, on-number, book-passed}
+use Rattle.book.proofs.Memory.{accepted-on, refused-on, on-number, book-passed}
 use Rattle.book.proofs.Known.{adds-up}
 use Rattle.book.proofs.Sound.{held-after}
 use Rattle.book.proofs.InWords.{post-fit, accepted-book}
@@ -49,8 +47,7 @@ module _ (h : Head) (t : List ℕ) (e : first (bookChecks h t) ≡ 0) where
       → (numberOf h t (post x) ≡ 22) × (numberOf h t (lift l) ≡ 22) × (numberOf h t (ask q room) ≡ 22)
   unfolding transferChecks liftChecks
   loaded-refuses u x l q room =
-      let k : 0 < held theScale (piecesOf (h .pieces) t) = rw (← scale-is) u in
-      (
+      let k : 0 < held theScale (piecesOf (h .pieces) t) = rw (← scale-is) u in (
         on-number h t (post x) _ refl e ∙ rw (lt-ltb _ _ k),
         on-number h t (lift l) _ refl e ∙ rw (lt-ltb _ _ k),
         on-number h t (ask q room) _ refl e ∙ rw (lt-ltb _ _ k),
@@ -117,7 +114,7 @@ cases =
     -- a lift: born at its source, on the scale; then all but its tip is refused with 22, and after that the tip with 23
     ∷ called 0 (lift (liftOf 1 5 3 2) ∷ []) held-up (3 ∷ 5 ∷ 1 ∷ 64 ∷ 1 ∷ 3 ∷ 3 ∷ 0 ∷ [])
     ∷ called 0 (tip (tipOf 0 5) ∷ lift (liftOf 1 5 3 2) ∷ lift (liftOf 9 0 0 0) ∷ post (transferOf 1 2 5 1 0) ∷ tip (tipOf 2 4) ∷ tip (tipOf 2 6) ∷ tip (tipOf 2 6) ∷ []) answers
-      (23 ∷ 0 ∷ 22 ∷ 22 ∷ 8 ∷ 0 ∷ 23 ∷ [])
+    (23 ∷ 0 ∷ 22 ∷ 22 ∷ 8 ∷ 0 ∷ 23 ∷ [])
     -- back to where it came from: the first lot ends behind the second, and the tip sets the last minute and is not counted
     ∷ called 0 (post (transferOf 0 1 1 2 0) ∷ post (transferOf 2 1 2 3 0) ∷ lift (liftOf 1 3 2 0) ∷ tip (tipOf 1 7) ∷ []) held-up (0 ∷ 7 ∷ 3 ∷ 1 ∷ 2 ∷ 2 ∷ 3 ∷ 1 ∷ 0 ∷ 1 ∷ 2 ∷ 1 ∷ [])
     ∷ []

@@ -23,7 +23,7 @@ use Rattle.book.specs.declared.Transfer.{Transfer}
 use Rattle.book.specs.declared.Lift.{Lift}
 use Rattle.book.specs.declared.Tip.{Tip}
 use Rattle.book.specs.declared.Motion.{Motion}
-use Rattle.book.specs.Head.{Book, lastRule, mostVessels, theScale, isHolder}
+use Rattle.book.specs.Head.{Book, lastRule, mostVessels, isHolder}
 use Rattle.book.specs.Motion.{ofBook, takes, piecesAfter, bookAfter}
 use Rattle.book.specs.Transfer.{transferChecks, motionOf}
 use Rattle.book.specs.Scale.{liftChecks, tipChecks, liftMotion, asTheyLie}

@@ -10,24 +10,24 @@ use mathlib.Core.List.{List, [], _∷_, _++_}
 use Prim.Native.Nat.{ℕ, zero, suc, _+_, _-_, _*_, _≤_, _<_}
 use native.Mathlib.Nat.{add-zero}
 use native.Mathlib.Omega.{arith}
-use lib.Dec.{leb, ltb, eqb}
+use lib.Dec.{leb, ltb}
 use lib.ListN.{length, drop}
 use lib.Seq.{drop-at}
 use borrow.Author.Tests.{leb-false, lt-leb, le-ltb, eq-eqb, ne-eqb}
 use Rattle.table.specs.declared.Piece.{Piece}
-use Rattle.table.specs.Pieces.{held, All}
+use Rattle.table.specs.Pieces.{held}
 use Rattle.table.specs.Table.{flat, lay, placesOf}
 use Rattle.table.proofs.Pieces.{all-map}
 use Rattle.table.proofs.Table.{length-flat, quad-is}
 use Rattle.picking.specs.Taking.{taken, handed}
-use Rattle.picking.proofs.Sweeping.{empty, sweeps, passed-on}
-use Rattle.refusal.specs.Numbers.{TOP, _if_, orElse, first, ifZero}
+use Rattle.picking.proofs.Sweeping.{none-held, sweeps, passed-on}
+use Rattle.refusal.specs.Numbers.{TOP, _if_, first}
 use Rattle.book.specs.declared.Head.{Head}
 use Rattle.book.specs.declared.Transfer.{Transfer}
 use Rattle.book.specs.Head.{Book, mostVessels, theScale, balanceAt, headOf, bookOf}
 use Rattle.book.specs.Motion.{ofBook, takes, piecesAfter, bookAfter}
 use Rattle.book.specs.Transfer.{transferChecks, motionOf}
-use Rattle.book.specs.Scale.{liftPart, tipPart, liftChecks, tipChecks, liftMotion, tipMotion, asTheyLie}
+use Rattle.book.specs.Scale.{liftPart, tipPart, liftChecks, tipChecks, liftMotion, asTheyLie}
 use Rattle.book.specs.Calls.{Call, post, lift, tip, tipOn, meaning}
 use Rattle.book.specs.Memory.{Outcome, outcome, bookChecks, callOn}
 use Rattle.book.proofs.Checks.{Fit, fit, LiftFit, lift-fit}
@@ -72,7 +72,7 @@ module _ (places : ℕ) (b : Book) (o : SoundBook places b) (x : Transfer) (bare
         let up = liftMotion (liftPart x) .moves in
         let down = tipOn lifted (tipPart x) .moves in
         let weighty = all-map (λ p f. f .weighty) (pieces-sound b (b .rule) (liftMotion (liftPart x)) (lift-sane b (liftPart x) clear) (o .sound)) in
-        let off-scale = empty theScale (b .pieces) (all-map (λ p f. f .weighty) (o .sound)) bare in
+        let off-scale = none-held theScale (b .pieces) (all-map (λ p f. f .weighty) (o .sound)) bare in
         let rest = takes-law b (b .rule) (liftMotion (liftPart x)) .fair .keeps (λ p. p .holder ≢ theScale) (λ p w u q. q) off-scale .0 in
         ap (handed down) (sweeps down (lifted .pieces) weighty refl) ∙ passed-on up down (motionOf x .moves) (takes b (b .rule) (liftMotion (liftPart x))) rest refl refl refl refl
 

@@ -4,43 +4,32 @@
 use mathlib.Core.Path.{_≡_, refl, sym, ap, _∙_}
 use mathlib.Core.Logic.{_≢_}
 use mathlib.Core.Bool.{Bool, true, false, true≢false, cond}
-use mathlib.Core.List.{List, [], _∷_, _++_}
-use Prim.Native.Nat.{ℕ, zero, suc, _+_, _-_, _*_, _≤_, _<_}
+use mathlib.Core.List.{List}
+use Prim.Native.Nat.{ℕ, _+_, _-_, _*_, _≤_, _<_}
 use native.Mathlib.Omega.{arith}
-use mir.Syntax.{w32}
-use mir.Val.{Fits}
-use lib.Dec.{T, ltb, eqb}
+use lib.Dec.{eqb}
 use lib.ListN.{length}
-use borrow.Author.Tests.{ltb-false, le-ltb}
-use Rattle.table.specs.Pieces.{only, held, All}
-use Rattle.table.specs.Table.{mostPlaces, piecesOf, lay, placesOf}
+use borrow.Author.Tests.{ltb-false}
+use Rattle.table.specs.Pieces.{only, held}
+use Rattle.table.specs.Table.{mostPlaces, piecesOf, placesOf}
 use Rattle.table.proofs.Pieces.{all-map}
 use Rattle.table.proofs.Table.{places-fit}
 use Rattle.picking.specs.Taking.{Taken, taken, handed}
 use Rattle.moving.specs.declared.Applied.{Applied}
-use Rattle.moving.specs.Applied.{liftedPlaces, full, refused, accepted, applied, tableLeft, Ready, Moves}
-use Rattle.refusal.specs.Numbers.{TOP, Check, _if_, orElse, first, ifZero}
-use Rattle.refusal.proofs.Numbers.{named, not-zero}
+use Rattle.moving.specs.Applied.{liftedPlaces, full, refused, accepted, applied, Ready, Moves}
+use Rattle.refusal.specs.Numbers.{_if_, first}
 use Rattle.book.specs.declared.Head.{Head}
-use Rattle.book.specs.declared.Transfer.{Transfer}
-use Rattle.book.specs.declared.Lift.{Lift}
-use Rattle.book.specs.declared.Tip.{Tip}
 use Rattle.book.specs.declared.Motion.{Motion}
 use Rattle.book.specs.declared.Transferred.{Transferred}
-use Rattle.book.specs.declared.Tipped.{Tipped}
-use Rattle.book.specs.Head.{Book, mostVessels, theScale, mostHolders, Sized, Shiftable, balanceAt, withBalance, holdings, shifted, headOf, bookOf}
-use Rattle.book.specs.Motion.{Standing, ofBook, ofHead, takes, piecesAfter, bookAfter}
-use Rattle.book.specs.Transfer.{transferChecks, motionOf}
-use Rattle.book.specs.Scale.{liftChecks, tipChecks, liftMotion, tipMotion, asTheyLie}
-use Rattle.book.specs.Calls.{Call, post, lift, tip, tipOn, Meaning, taking, meaning}
-use Rattle.book.specs.Memory.{bookChecks, numberOf, callOn, transferred, tipped}
+use Rattle.book.specs.Head.{Book, mostVessels, mostHolders, Sized, Shiftable, balanceAt, withBalance, holdings, shifted, headOf, bookOf}
+use Rattle.book.specs.Motion.{takes, piecesAfter, bookAfter}
+use Rattle.book.specs.Memory.{bookChecks}
 use Rattle.book.proofs.HolderLaws.{holder-bound}
 use Rattle.book.proofs.BalanceLaws.{Holders, Matches, matches-balances, long-balances, shift-matches, shift-there}
-use Rattle.book.proofs.Checks.{Fit, fit, LiftFit, lift-fit, TipFit, tip-fit}
-use Rattle.book.proofs.Sound.{number, number-of, takes-law, held-after, tip-length, keeps}
-use Rattle.book.proofs.Memory.{number-same, no-place, refused-on, accepted-on, off-number, on-number, book-passed}
-use Rattle.book.proofs.Known.{Known, known-up, standing-same}
-use Rattle.carrying.specs.Carrying.{Audited, Workable, Carriable, refusedWith, nextHead, Countable, concluded, Carries}
+use Rattle.book.proofs.Sound.{takes-law, held-after}
+use Rattle.book.proofs.Memory.{book-passed}
+use Rattle.book.proofs.Known.{Known, known-up}
+use Rattle.carrying.specs.Carrying.{Audited, Workable, Carriable, nextHead, Countable, concluded, Carries}
 
 -- past 1 and 4
 pub audited : (h : Head) (t : List ℕ) (n : ℕ) → (n ≡ first (bookChecks h t)) × Sized h → n ≡ 0 → Audited h t

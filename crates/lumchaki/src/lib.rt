@@ -5,24 +5,22 @@ ghost use lib.ListN.{length};
 ghost use Rattle.book.specs.Head.{opening};
 ghost use Rattle.book.specs.declared.Report.the-variants.{Held, Spread, Whole};
 ghost use Rattle.book.specs.Transfer.{transferOf};
-ghost use Rattle.book.specs.Scale.{liftOf, tipOf};
-ghost use Rattle.book.specs.Calls.{post, lift};
-ghost use Rattle.posting.specs.Posting.{Posts, Tips};
+ghost use Rattle.book.specs.Calls.{post};
+ghost use Rattle.posting.specs.Posting.{Posts};
 ghost use Rattle.reports.specs.Asking.{Asks};
 ghost use Rattle.sheet.specs.Answers.{reading, movementAsked, nameNumber, nameAsked};
 ghost use Rattle.writing.specs.Writing.{writeNumber, written};
 ghost use Rattle.run.specs.Run.{Gives, running};
 use book::Head;
-use book::Lift;
 use book::Opened;
 use book::Reported;
-use book::Tip;
-use book::Tipped;
 use book::Transfer;
 use book::Transferred;
 use run::Ran;
 use sheet::answer::Movement;
 use sheet::answer::Reading;
+
+mod scale; // scale.rt: lift and tip
 
 #[no_mangle]
 pub extern "C" fn lumchaki_open(rule: u32, vessels: u32) -> Opened
@@ -52,48 +50,6 @@ pub extern "C" fn lumchaki_transfer(
             minute: minute,
             weight: weight,
             age: age,
-        },
-    )
-}
-
-#[no_mangle]
-pub extern "C" fn lumchaki_lift(
-    head: Head,
-    table: &mut [u32],
-    source: u32,
-    minute: u32,
-    weight: u32,
-    age: u16,
-) -> Transferred
-    ensures { λ r. ⌜ Posts head (lift (liftOf source minute weight age)) (now (table .entry)) (now (table .exit)) r ⌝ }
-{
-    posting::lift(
-        head,
-        table,
-        Lift {
-            source: source,
-            minute: minute,
-            weight: weight,
-            age: age,
-        },
-    )
-}
-
-#[no_mangle]
-pub extern "C" fn lumchaki_tip(
-    head: Head,
-    table: &mut [u32],
-    destination: u32,
-    minute: u32,
-) -> Tipped
-    ensures { λ r. ⌜ Tips head (tipOf destination minute) (now (table .entry)) (now (table .exit)) r ⌝ }
-{
-    posting::tip(
-        head,
-        table,
-        Tip {
-            destination: destination,
-            minute: minute,
         },
     )
 }

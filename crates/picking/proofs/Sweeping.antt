@@ -47,13 +47,13 @@ module _ (s : ℕ) where
       rw (y .0, y .1, z .0, z .1)
 
   -- where every piece weighs something, no weight is no piece
-  pub empty : (ps : List Piece) → All (λ p. 1 ≤ p .weight) ps → held s ps ≡ 0 → All (λ p. p .holder ≢ s) ps
-  empty [] h e = done
-  empty (p ∷ ps) (also h x) e = also (λ (u : p .holder ≡ s). absurd (omega (arith, rw (eq-eqb (p .holder) s u) at e))) (empty ps x (omega arith))
+  pub none-held : (ps : List Piece) → All (λ p. 1 ≤ p .weight) ps → held s ps ≡ 0 → All (λ p. p .holder ≢ s) ps
+  none-held [] h e = done
+  none-held (p ∷ ps) (also h x) e = also (λ (u : p .holder ≡ s). absurd (omega (arith, rw (eq-eqb (p .holder) s u) at e))) (none-held ps x (omega arith))
 
   -- nothing is wanted, so s has nothing
   ended : (want : ℕ) (ps : List Piece) → All (λ p. 1 ≤ p .weight) ps → want ≡ held s ps → want ≡ 0 → stop want ps ≡ swept s ps
-  ended want ps h e z = rw (swept-none ps (empty ps h (omega arith)), z)
+  ended want ps h e z = rw (swept-none ps (none-held ps h (omega arith)), z)
 
   -- with at most n pieces
   abbrev Sweeps : ℕ → Type 0

@@ -1,14 +1,14 @@
 -- The calls: what the checks of a transfer, a lift and a tip tell lets their motion be carried, and what is answered then is the call on head and
 -- table. A transfer and a lift are one law, over the checks and the motion of what takes weight from a vessel.
 -- Assumes nothing.
-use mathlib.Core.Path.{_≡_, refl, sym, ap, _∙_, subst}
+use mathlib.Core.Path.{_≡_, refl, sym, ap, _∙_}
 use mathlib.Core.Bool.{Bool, true, false, cond}
-use mathlib.Core.List.{List, [], _∷_, _++_}
-use Prim.Native.Nat.{ℕ, zero, suc, _+_, _≤_, _<_}
+use mathlib.Core.List.{List, [], _∷_}
+use Prim.Native.Nat.{ℕ, zero, suc, _≤_, _<_}
 use native.Mathlib.Omega.{arith}
 use mir.Syntax.{w32}
 use mir.Val.{Fits}
-use lib.Dec.{T, ltb, eqb}
+use lib.Dec.{T, eqb}
 use lib.ListN.{length}
 use borrow.Author.Tests.{le-ltb}
 use Rattle.table.specs.Pieces.{held}
@@ -16,7 +16,7 @@ use Rattle.table.specs.Table.{piecesOf, placesOf}
 use Rattle.table.proofs.Pieces.{all-map}
 use Rattle.picking.specs.Taking.{taken}
 use Rattle.moving.specs.Applied.{full, applied, tableLeft}
-use Rattle.refusal.specs.Numbers.{Check, _if_, orElse, first, ifZero}
+use Rattle.refusal.specs.Numbers.{Check, _if_, first, ifZero}
 use Rattle.refusal.proofs.Numbers.{named, not-zero, first-append}
 use Rattle.book.specs.declared.Head.{Head}
 use Rattle.book.specs.declared.Transfer.{Transfer}
@@ -30,10 +30,10 @@ use Rattle.book.specs.Motion.{Standing, ofBook, ofHead, takes, piecesAfter}
 use Rattle.book.specs.Transfer.{transferChecks, motionOf}
 use Rattle.book.specs.Scale.{liftChecks, tipChecks, liftMotion, tipMotion, asTheyLie}
 use Rattle.book.specs.Calls.{Call, post, lift, tip, tipOn, Meaning, taking, meaning}
-use Rattle.book.specs.Memory.{bookChecks, numberOf, callOn, outcome}
+use Rattle.book.specs.Memory.{bookChecks, numberOf, outcome}
 use Rattle.book.proofs.BalanceLaws.{Holders}
 use Rattle.book.proofs.Checks.{Fit, fit, LiftFit, lift-fit, TipFit, tip-fit}
-use Rattle.book.proofs.Sound.{number, number-of, tip-length, keeps}
+use Rattle.book.proofs.Sound.{number, tip-length, keeps}
 use Rattle.book.proofs.Memory.{number-same, no-place, refused-on, accepted-on, off-number}
 use Rattle.book.proofs.Known.{Known, standing-same}
 use Rattle.carrying.specs.Carrying.{Audited, Carriable, refusedWith, Carries}

@@ -1,17 +1,14 @@
 -- A report on head and table: its refusals, and its acceptance on a book known to add up. One law for all three reports.
 -- Assumes nothing.
 use mathlib.Core.Path.{_≡_, refl, sym, ap, _∙_}
-use mathlib.Core.Logic.{_≢_}
 use mathlib.Core.List.{List, _∷_}
 use Prim.Native.Nat.{ℕ, _*_, _≤_, _<_, zero, suc}
 use native.Mathlib.Omega.{arith}
 use lib.ListN.{length}
 use borrow.Author.Tests.{lt-ltb, le-ltb, ltb-false}
-use Rattle.table.specs.declared.Piece.{Piece}
-use Rattle.table.specs.Pieces.{held, All, done, also}
+use Rattle.table.specs.Pieces.{held}
 use Rattle.table.specs.Table.{piecesOf}
 use Rattle.table.proofs.Pieces.{all-map}
-use Rattle.picking.proofs.Sweeping.{empty}
 use Rattle.refusal.specs.Numbers.{Check, first}
 use Rattle.refusal.proofs.Numbers.{past}
 use Rattle.book.specs.declared.Head.{Head}
@@ -23,8 +20,7 @@ use Rattle.book.specs.Memory.{outcome, bookChecks, numberOf, callOn}
 use Rattle.book.specs.Reports.{reportRow, reportChecks, onto}
 use Rattle.book.specs.declared.Report.{Report}
 use Rattle.book.proofs.Memory.{refused-on, off-number, on-number, passed-book, book-passed}
-use Rattle.book.proofs.HolderLaws.{holder-vessel}
-use Rattle.book.proofs.Sound.{SoundPiece}
+use Rattle.book.proofs.HeadLaws.{in-vessels}
 use Rattle.book.proofs.Known.{adds-up, adds-head, known, standing-same}
 use Rattle.reports.specs.Asking.{Asks}
 use Rattle.reports.specs.Scatter.{Reportable}
@@ -63,14 +59,6 @@ module _ (h : Head) (t : List ℕ) (q : Report) (room : List ℕ) where
     unfolding callOn
     asked-accepted zn z ez r er = let k = known h t m em zm in let e = own-number ∙ zn in record { answer = rw e (ez ∙ rw (← (k .on .head-is)) refl); room = rw e er }
 
--- every piece of a book with nothing on the scale lies in a vessel
-in-vessels : (size last : ℕ) (ps : List Piece) → All (SoundPiece size last) ps → held theScale ps ≡ 0 → All (λ p. p .holder < size) ps
-in-vessels size last ps s bare = both s (empty theScale ps (all-map (λ p f. f .weighty) s) bare)
-  where
-    both : {ps : List Piece} → All (SoundPiece size last) ps → All (λ p. p .holder ≢ theScale) ps → All (λ p. p .holder < size) ps
-    both done done = done
-    both (also f x) (also n y) = also (holder-vessel size _ (f .holder-in) n) (both x y)
-
 -- What writing a report asks: checks 1 and 4 gave m, its own gave n, both 0.
 pub asked-ready : (h : Head) (t : List ℕ) (q : Report) (long m n : ℕ) → (m ≡ first (bookChecks h t)) × Sized h → m ≡ 0 → n ≡ first (loaded (ofHead h) ∷ reportChecks (h .vessels) long q) → n ≡ 0
     → (4 * h .pieces ≤ length t) × (first (reportChecks (h .vessels) long q) ≡ 0) × Reportable (h .vessels) (piecesOf (h .pieces) t)
@@ -78,8 +66,7 @@ asked-ready h t q long m n em zm en zn =
     let k = known h t m em zm in
     let sound = k .sound .sound in
     let p = past 21 _ (reportChecks (h .vessels) long q) (sym en ∙ zn) in
-    let bare : held theScale (piecesOf (h .pieces) t) ≡ 0 = omega (arith, ltb-false 0 (balanceAt h theScale) (p .0), k .balance theScale) in
-    (
+    let bare : held theScale (piecesOf (h .pieces) t) ≡ 0 = omega (arith, ltb-false 0 (balanceAt h theScale) (p .0), k .balance theScale) in (
       k .there,
       p .1,
       record { few = k .sound .vessels-fit; holders = in-vessels _ _ _ sound bare; origins = all-map (λ p f. f .origin-in) sound; light = k .light .light },
