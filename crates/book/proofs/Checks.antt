@@ -1,4 +1,5 @@
--- The checks of transfer, lift and tip: what it tells of each that none applies, and what decides of a transfer once 22 and 5 to 8 do not.
+-- The checks of transfer, lift and tip: what it tells of each that none applies, that none applies where that holds, and what decides of a transfer once
+-- 22 and 5 to 8 do not.
 -- Assumes nothing.
 use mathlib.Core.Path.{_≡_}
 use mathlib.Core.Logic.{_≢_}
@@ -89,6 +90,17 @@ tip-by-name g y (bare, (no-destination, (back, (over, end)))) = record {
 pub tip-fit : (g : Standing) (y : Tip) → first (tipChecks g y) ≡ 0 → TipFit g y
 unfolding tipChecks
 tip-fit g y e = tip-by-name g y (passed (tipChecks g y) tt e)
+
+-- and the other way round: where all of that holds, none applies
+pub lift-passes : (g : Standing) (x : Lift) → LiftFit g x → first (liftChecks g x) ≡ 0
+unfolding liftChecks
+lift-passes g x f =
+    let w : x .weight ≢ 0 = λ z. omega (arith, f .weighty) in
+    rw (f .bare, lt-leb _ _ (f .source-in), ne-eqb _ _ w, le-ltb _ _ (f .forward), le-ltb _ _ (f .in-time), ne-eqb _ _ (f .tally))
+
+pub tip-passes : (g : Standing) (y : Tip) → TipFit g y → first (tipChecks g y) ≡ 0
+unfolding tipChecks
+tip-passes g y f = rw (ne-eqb _ _ (f .load), lt-leb _ _ (f .destination-in), le-ltb _ _ (f .forward), le-ltb _ _ (f .room))
 
 module _ (g : Standing) (x : Transfer) (bare : g .balance theScale ≡ 0) (source-in : x .source < g .vessels) (destination-in : x .destination < g .vessels)
     (apart : x .source ≢ x .destination) (weighty : x .weight ≢ 0) (forward : g .last ≤ x .minute) where

@@ -5,17 +5,17 @@
 use mathlib.Core.Path.{_≡_, refl}
 use mathlib.Core.Bool.{Bool, true, false, _&&_, cond}
 use mathlib.Core.List.{List, [], _∷_, _++_, map}
-use Prim.Native.Nat.{ℕ, _<_, _-_}
+use Prim.Native.Nat.{ℕ, zero, suc, _≤_, _<_, _-_}
 use native.Mathlib.Omega.{arith}
 use lib.Dec.{leb, eqb}
 use lib.ListN.{length, replicate}
-use borrow.Author.Tests.{lt-leb}
+use borrow.Author.Tests.{le-leb, lt-leb}
 use Rattle.table.specs.Table.{mostPlaces, piecesOf, placesOf}
 use Rattle.refusal.specs.Numbers.{TOP, first}
 use Rattle.book.specs.declared.Head.{Head}
 use Rattle.book.specs.declared.Report.{Report}
 use Rattle.book.specs.declared.Report.the-variants.{Held, Spread, Whole}
-use Rattle.book.specs.Head.{lastRule, mostVessels, theScale, tab, balancesOf, every, same, addsUp, opening}
+use Rattle.book.specs.Head.{lastRule, mostVessels, theScale, tab, balancesOf, every, same, addsUp, openChecks, opens, opening}
 use Rattle.book.specs.Motion.{Standing}
 use Rattle.book.specs.Transfer.{transferOf, transferChecks}
 use Rattle.book.specs.Scale.{liftOf, tipOf, liftChecks, tipChecks}
@@ -89,6 +89,12 @@ edges =
     ∷ book 3 2 1 5 1 (0 ∷ 7 ∷ []) (1 ∷ 1 ∷ 5 ∷ 7 ∷ []) gives 0
     ∷ book 3 2 1 4 1 (0 ∷ 7 ∷ []) (1 ∷ 0 ∷ 5 ∷ 7 ∷ []) gives 4
     ∷ book 3 2 1 5 1 [] (1 ∷ 0 ∷ 5 ∷ 0 ∷ []) gives 4
+    -- the same far off
+    ∷ book TOP 2 1 5 1 (0 ∷ 7 ∷ []) (1 ∷ 0 ∷ 5 ∷ 7 ∷ []) gives 4
+    ∷ book 0 TOP 0 0 0 [] (9 ∷ 9 ∷ 9 ∷ 9 ∷ []) gives 4
+    ∷ book 3 2 1 5 1 [] (9 ∷ 0 ∷ 5 ∷ 7 ∷ []) gives 4
+    ∷ book 3 2 1 5 1 (0 ∷ 7 ∷ []) (1 ∷ TOP ∷ 5 ∷ 7 ∷ []) gives 4
+    ∷ book 3 2 1 4 1 (0 ∷ 7 ∷ []) (1 ∷ 0 ∷ TOP ∷ 7 ∷ []) gives 4
     -- a piece on the scale, and the scale's balance
     ∷ loaded 3 2 1 5 1 [] 7 (64 ∷ 0 ∷ 5 ∷ 7 ∷ []) gives 0
     ∷ loaded 3 2 1 5 1 [] 8 (64 ∷ 0 ∷ 5 ∷ 7 ∷ []) gives 4
@@ -96,7 +102,8 @@ edges =
     ∷ loaded 3 2 1 5 1 [] 0 (64 ∷ 0 ∷ 5 ∷ 7 ∷ []) gives 4
     ∷ loaded 3 2 1 5 1 (0 ∷ 7 ∷ []) 7 (1 ∷ 0 ∷ 5 ∷ 7 ∷ []) gives 4
     ∷ loaded 3 2 2 5 2 [] 0 (64 ∷ 0 ∷ 5 ∷ TOP ∷ 64 ∷ 0 ∷ 5 ∷ 1 ∷ []) gives 4
-    ∷ loaded 3 2 1 5 1 [] 7 (65 ∷ 0 ∷ 5 ∷ 7 ∷ []) gives 4
+    ∷ loaded 3 2 1 5 1 [] 0 (65 ∷ 0 ∷ 5 ∷ 7 ∷ []) gives 4
+    ∷ loaded 3 2 1 5 1 [] 0 (TOP ∷ 0 ∷ 5 ∷ 7 ∷ []) gives 4
     ∷ loaded 3 64 1 5 1 [] 7 (64 ∷ 63 ∷ 5 ∷ 7 ∷ []) gives 0
     ∷ loaded 3 64 1 5 1 [] 7 (64 ∷ 64 ∷ 5 ∷ 7 ∷ []) gives 4
     -- a balance below V, one that wraps, one from V on
@@ -126,9 +133,15 @@ edges =
     ∷ move TOP 2 1 7 (TOP - 4) 0 gives 9
     ∷ move (TOP - 1) 2 1 7 1 0 gives 0
     ∷ move TOP 2 1 7 1 0 gives 10
+    ∷ move 0 TOP 1 7 1 0 gives 5
+    ∷ move 0 1 TOP 7 1 0 gives 5
+    ∷ move 0 2 1 0 1 0 gives 8
+    ∷ move 0 2 1 7 1 TOP gives 21
+    ∷ move 0 2 1 7 TOP 0 gives 9
     -- 22 of a transfer, before 5
     ∷ beside 1 2 1 7 1 0 gives 22
     ∷ beside 1 3 3 6 0 8 gives 22
+    ∷ beside TOP 2 1 7 1 0 gives 22
     -- checks 22, 5, 7, 8, 21, 10 of a lift, and their order; it has no 6 and no 9
     ∷ raise 0 0 2 7 TOP 7 gives 0
     ∷ raise 1 TOP 3 6 0 8 gives 22
@@ -138,6 +151,10 @@ edges =
     ∷ raise 0 TOP 2 6 1 8 gives 8
     ∷ raise 0 TOP 2 7 1 8 gives 21
     ∷ raise 0 TOP 2 7 1 7 gives 10
+    ∷ raise TOP 0 2 7 1 7 gives 22
+    ∷ raise 0 0 TOP 7 1 0 gives 5
+    ∷ raise 0 0 2 0 1 0 gives 8
+    ∷ raise 0 0 2 7 1 TOP gives 21
     ∷ raise 0 (TOP - 1) 2 7 1 7 gives 0
     -- checks 23, 5, 8, 9 of a tip, and their order; it has no 10
     ∷ lower 1 2 7 gives 0
@@ -147,6 +164,10 @@ edges =
     ∷ lower (TOP - 4) 2 6 gives 8
     ∷ lower (TOP - 4) 2 7 gives 9
     ∷ lower (TOP - 5) 2 7 gives 0
+    ∷ lower (TOP - 5) 2 TOP gives 0
+    ∷ lower 1 TOP 7 gives 5
+    ∷ lower 1 2 0 gives 8
+    ∷ lower TOP 2 7 gives 9
     -- checks 5, 12, 13 of a report, and their order
     ∷ report (Held 2) 3 gives 0
     ∷ report (Held 3) 3 gives 5
@@ -158,6 +179,13 @@ edges =
     ∷ report (Spread 0 5 4) 3 gives 12
     ∷ report (Spread 0 5 4) 2 gives 12
     ∷ report (Spread 0 5 5) 2 gives 13
+    ∷ report (Held TOP) 3 gives 5
+    ∷ report (Held 0) 0 gives 13
+    ∷ report (Spread TOP 5 5) 3 gives 5
+    ∷ report (Spread 0 5 0) 3 gives 12
+    ∷ report (Spread 0 0 TOP) 3 gives 0
+    ∷ report (Spread 0 5 5) 0 gives 13
+    ∷ report Whole 0 gives 13
     ∷ report Whole 8 gives 13
     ∷ report Whole 9 gives 0
     ∷ []
@@ -165,6 +193,21 @@ edges =
 pub at-the-edge : map (λ e. e .found) edges ≡ map (λ e. e .wanted) edges
 unfolding edges opening bookChecks addsUp every same balancesOf tab placesOf piecesOf transferChecks liftChecks tipChecks reportChecks
 at-the-edge = refl
+
+-- However far off the vessel of a held report or the origin of a spread one is, it is 5, and before all else.
+pub no-vessel : (size v from to room : ℕ) → size ≤ v → (first (reportChecks size room (Held v)) ≡ 5) × (first (reportChecks size room (Spread v from to)) ≡ 5)
+unfolding reportChecks
+no-vessel size v from to room h = (rw (le-leb size v h), rw (le-leb size v h))
+
+-- A refused opening gives a head of zeros.
+pub zeros : (rule size : ℕ) → ((opening rule size) .number ≡ 0 → ⊥)
+    → (opening rule size) .head ≡ record { rule = 0; vessels = 0; pieces = 0; last = 0; accepted = 0; balances = replicate 64 0; scale = 0 }
+unfolding opening
+zeros rule size = go (first (openChecks rule size))
+  where
+    go : (n : ℕ) → ((opens rule size n) .number ≡ 0 → ⊥) → (opens rule size n) .head ≡ record { rule = 0; vessels = 0; pieces = 0; last = 0; accepted = 0; balances = replicate 64 0; scale = 0 }
+    go zero nz = absurd (nz refl)
+    go (suc n) nz = refl
 
 -- More pieces than a table ever counts places: no computed case reaches it.
 pub too-many : (h : Head) (t : List ℕ) → mostPlaces < h .pieces → addsUp h t ≡ false

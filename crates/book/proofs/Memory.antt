@@ -16,8 +16,8 @@ use Rattle.refusal.specs.Numbers.{first, ifZero}
 use Rattle.refusal.proofs.Numbers.{not-zero, first-zero, passed, first-append}
 use Rattle.book.specs.declared.Head.{Head}
 use Rattle.book.specs.Head.{Book, lastRule, mostVessels, theScale, balancesOf, headOf, bookOf, addsUp}
-use Rattle.book.specs.Calls.{Call, meaning, noAnswer}
-use Rattle.book.specs.Memory.{outcome, bookChecks, numberOf, callOn}
+use Rattle.book.specs.Calls.{Call, post, lift, tip, ask, meaning, noAnswer}
+use Rattle.book.specs.Memory.{Outcome, outcome, bookChecks, numberOf, callOn, transferred, tipped, reported}
 use Rattle.book.proofs.Sound.{number, SoundBook, Lies, keeps}
 use Rattle.book.proofs.HeadLaws.{same-refl, all-fit}
 
@@ -47,6 +47,13 @@ call-number h t c = go (numberOf h t c)
     go : (n : ℕ) → (outcome h t (meaning c) n) .number ≡ n
     go zero = refl
     go (suc n) = refl
+
+-- what the code answers is all of it
+pub answer-told : (o : Outcome)
+    → (transferred o ≡ record { number = o .number; head = o .head; whole = o .answer .whole; split = o .answer .split; born = o .answer .born })
+    × (tipped o ≡ record { number = o .number; head = o .head })
+    × (reported o ≡ record { number = o .number; head = o .head })
+answer-told o = (refl, refl, refl)
 
 -- a refused call gives back the head and leaves all memory as it was
 pub refused-on : (h : Head) (t : List ℕ) (c : Call) (n : ℕ) → numberOf h t c ≡ n → (n ≡ 0 → ⊥)
@@ -151,3 +158,15 @@ module _ (places : ℕ) (h : Head) (t : List ℕ) (b : Book) (on : On places h t
           let z : numberOf h t c ≡ 0 = s ∙ e in
           record { number-is = rw z; even-is = rw (z, back); holds = rw (z, back) (record { head-is = refl; lies = k .lies t (on .lies) }); sound = k .sound }
       go (suc n) e s = let z : numberOf h t c ≡ suc n = s ∙ e in record { number-is = rw z; even-is = rw z; holds = rw z on; sound = o }
+
+-- no call alters the rule or the number of vessels
+pub rule-kept : (h : Head) (t : List ℕ) (c : Call) → ((callOn h t c) .head .rule ≡ h .rule) × ((callOn h t c) .head .vessels ≡ h .vessels)
+unfolding callOn
+rule-kept h t c = go c (numberOf h t c)
+  where
+    go : (c : Call) (n : ℕ) → ((outcome h t (meaning c) n) .head .rule ≡ h .rule) × ((outcome h t (meaning c) n) .head .vessels ≡ h .vessels)
+    go (post x) zero = (refl, refl)
+    go (lift x) zero = (refl, refl)
+    go (tip y) zero = (refl, refl)
+    go (ask q room) zero = (refl, refl)
+    go c (suc n) = (refl, refl)

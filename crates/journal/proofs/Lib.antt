@@ -1,2 +1,3 @@
 pub mod AgeLaws
 pub mod Carrying
+pub mod WhichCall
