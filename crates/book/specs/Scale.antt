@@ -18,7 +18,7 @@ liftOf s t q age = record { source = s; minute = t; weight = q; age = age }
 abbrev pub tipOf : ℕ → ℕ → Tip
 tipOf d t = record { destination = d; minute = t }
 
--- "A transfer is divided": the lift and the tip that a transfer leaves what they leave in succession
+-- "A transfer is divided": into this lift and this tip. `succession` (proofs/Succession.antt) shows that it leaves what they leave in succession.
 abbrev pub liftPart : Transfer → Lift
 liftPart x = liftOf (x .source) (x .minute) (x .weight) (x .age)
 
