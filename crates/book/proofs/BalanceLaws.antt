@@ -6,7 +6,7 @@ use mathlib.Core.Logic.{_≢_}
 use mathlib.Core.Bool.{Bool, true, false, cond}
 use mathlib.Core.List.{List, [], _∷_, _++_}
 use Prim.Native.Nat.{ℕ, zero, suc, _+_, _-_, _≤_, _<_}
-use native.Mathlib.Nat.{not-suc-le-zero, le-of-suc-le-suc}
+use native.Mathlib.Nat.{not-suc-le-zero, le-of-suc-le-suc, zero-add, add-zero, suc-add}
 use native.Mathlib.Omega.{arith}
 use mir.Syntax.{w32}
 use mir.Val.{Fits}
@@ -31,6 +31,16 @@ unfolding tab
 getD-tab f i zero k h = absurd (not-suc-le-zero h)
 getD-tab f i (suc n) zero h = ap f (omega arith)
 getD-tab f i (suc n) (suc k) h = getD-tab f (suc i) n k (le-of-suc-le-suc h) ∙ ap f (omega arith)
+
+pub tab-append : (f : ℕ → ℕ) (i m n : ℕ) → tab f i (m + n) ≡ tab f i m ++ tab f (i + m) n
+unfolding tab
+tab-append f i zero n = rw (zero-add, add-zero)
+tab-append f i (suc m) n = let e : suc i + m ≡ i + suc m = omega arith in rw suc-add (ap (λ (l : List ℕ). f i ∷ l) (tab-append f (suc i) m n ∙ rw e))
+
+-- the same numbers make the same list, wherever they are counted from
+pub tab-same : (f g : ℕ → ℕ) (i j n : ℕ) → ((k : ℕ) → k < n → f (i + k) ≡ g (j + k)) → tab f i n ≡ tab g j n
+tab-same f g i j n e =
+    ext-getD 0 _ _ (length-tab f i n ∙ sym (length-tab g j n)) (λ k h. let l : k < n = rw length-tab at h in getD-tab f i n k l ∙ e k l ∙ sym (getD-tab g j n k l))
 
 tab-zeros : (f : ℕ → ℕ) → ((k : ℕ) → f k ≡ 0) → (i n : ℕ) → tab f i n ≡ replicate n 0
 unfolding tab

@@ -1,34 +1,37 @@
--- The loops and parts of a report: clearing its numbers, entering a piece, what a row asks of a book's pieces, and rows one behind the other.
+-- The loops and parts of a report: clearing its numbers, entering a piece, what a pass asks of a book's pieces and leaves, and rows one behind the other.
 -- Assumes nothing.
 use mathlib.Core.Path.{_≡_, sym, ap, _∙_}
 use mathlib.Core.Bool.{Bool, true, false, _&&_, cond}
 use mathlib.Core.List.{List, [], _∷_, _++_, append-assoc, append-nil}
-use Prim.Native.Nat.{ℕ, zero, suc, _+_, _-_, _*_, _≤_, _<_}
-use native.Mathlib.Nat.{zero-mul, suc-mul, mul-le-mul, mul-le-mul-right, add-zero}
+use Prim.Native.Nat.{ℕ, zero, suc, _+_, _-_, _*_, _^_, _≤_, _<_}
+use native.Mathlib.Nat.{zero-mul, suc-mul, mul-le-mul, add-zero}
 use native.Mathlib.Numerals.{add-one}
 use native.Mathlib.Omega.{arith}
-use mir.Syntax.{w32, w64}
-use mir.Val.{Fits}
-use lib.Dec.{eqb}
+use mir.Syntax.{Width, w32, w64}
+use mir.Val.{bits, Fits}
+use borrow.Author.Needs.{fits-under}
+use lib.Dec.{T, leb, eqb}
 use lib.ListN.{length, getD, take, drop, set, replicate, replicate-append-replicate, length-append, length-take, length-drop, length-replicate, drop-of-length-le}
 use lib.Seq.{drop-cons, getD-set-same, set-at, append-snoc, take-at, drop-at, take-all, drop-drop}
 use Rattle.table.specs.declared.Piece.{Piece}
-use Rattle.table.specs.Pieces.{only, total, weigh, inVessel}
+use Rattle.table.specs.Pieces.{only, total, weigh, inVessel, sum}
+use Rattle.table.proofs.Pieces.{all-map, all-both}
 use Rattle.refusal.specs.Numbers.{TOP}
 use Rattle.book.specs.Head.{mostVessels}
-use Rattle.book.specs.Reports.{heldRow, rows, onto}
+use Rattle.book.specs.Reports.{fromOrigin, heldRow, bornWithin, spreadRow, rows, onto}
 use Rattle.book.proofs.BalanceLaws.{length-tab}
-use Rattle.reports.specs.declared.Row.{Row}
-use Rattle.reports.specs.declared.Row.the-variants.{ByOrigin, ByHolder}
-use Rattle.reports.specs.Scatter.{addAt, born, counted, indexOf, Tallied, Reportable}
+use Rattle.reports.specs.declared.Pass.the-variants.{ByOrigin, ByHolder, ByBoth}
+use Rattle.reports.specs.Scatter.{cleared, addAt, born, counted, indexOf, Tallied, onePass, Reportable}
+use Rattle.reports.proofs.Scattered.{scattered}
+use Rattle.reports.proofs.Square.{row-below, tally-square, cells-inside, one-pass}
 
 -- clearing: a turn and the end
-pub clear-next : (i n : ℕ) (r₀ r : List ℕ) → i < n → n ≤ length r₀ → r ≡ replicate i 0 ++ drop i r₀ → set r i 0 ≡ replicate (i + 1) 0 ++ drop (i + 1) r₀
+pub clear-next : (i n : ℕ) (r₀ r : List ℕ) → i < n → n ≤ length r₀ → r ≡ cleared i r₀ → set r i 0 ≡ cleared (i + 1) r₀
 clear-next i n r₀ r h l e =
     let behind = drop (suc i) r₀ in
     rw (e, ← (replicate-append-replicate {A = ℕ} i 1 0), add-one, drop-cons r₀ i 0 (omega arith)) (set-at (replicate i 0) (getD r₀ i 0) behind 0 i (length-replicate i 0) ∙ sym (append-snoc (replicate i 0) 0 behind))
 
-pub clear-end : (i n : ℕ) (r₀ r : List ℕ) → i ≤ n → n ≤ i → r ≡ replicate i 0 ++ drop i r₀ → r ≡ replicate n 0 ++ drop n r₀
+pub clear-end : (i n : ℕ) (r₀ r : List ℕ) → i ≤ n → n ≤ i → r ≡ cleared i r₀ → r ≡ cleared n r₀
 clear-end i n r₀ r a b e = let q : n ≡ i = omega arith in rw q e
 
 -- entering a piece, with the answer b to whether it counts: the sum fits, and the two cases
@@ -42,7 +45,7 @@ module _ (r : List ℕ) (i w : ℕ) (b c : Bool) (e : b ≡ c) where
   pub enter-no : b ≡ false → r ≡ cond c (addAt r i w) r
   enter-no y = rw (← e, y)
 
--- What the rows of a book's pieces ask: the pieces that a row counts at an index are some of those that a vessel holds.
+-- What the passes over a book's pieces ask: the pieces that one counts at an index are some of those that a vessel holds.
 part : (f g : Piece → ℕ) → ((p : Piece) → f p ≤ g p) → (ps : List Piece) → total f ps ≤ total g ps
 part f g h [] = omega arith
 part f g h (p ∷ ps) = omega (arith, h p, part f g h ps)
@@ -56,11 +59,32 @@ only-right : (a c : Bool) (w : ℕ) → only (a && c) w ≤ only c w
 only-right true c w = omega arith
 only-right false c w = omega arith
 
-pub row-tallied : (size : ℕ) (ps : List Piece) → Reportable size ps → (row : Row) → Tallied (counted row) (indexOf row) size ps
-row-tallied size ps k (ByOrigin v) =
-    record { inside = k .origins; light = λ j. omega (arith, k .light v, part _ (weigh (inVessel v)) (λ p. only-right (eqb (p .origin) j) (eqb (p .holder) v) (p .weight)) ps) }
-row-tallied size ps k (ByHolder u from to) =
-    record { inside = k .holders; light = λ j. omega (arith, k .light j, part _ (weigh (inVessel j)) (λ p. only-left (eqb (p .holder) j) (born u from to p) (p .weight)) ps) }
+module _ (size : ℕ) (ps : List Piece) (k : Reportable size ps) where
+  by-origin-light : (v u : ℕ) → sum (fromOrigin v u) ps ≤ TOP
+  by-origin-light v u = omega (arith, k .light v, part _ (weigh (inVessel v)) (λ p. only-right (eqb (p .origin) u) (eqb (p .holder) v) (p .weight)) ps)
+
+  by-holder-light : (u from to v : ℕ) → sum (bornWithin u from to v) ps ≤ TOP
+  by-holder-light u from to v = omega (arith, k .light v, part _ (weigh (inVessel v)) (λ p. only-left (eqb (p .holder) v) (born u from to p) (p .weight)) ps)
+
+  pub held-tallied : (v : ℕ) → Tallied (counted (ByOrigin v)) (indexOf (ByOrigin v)) size ps
+  held-tallied v = all-map (λ p h. (h, by-origin-light v (p .origin))) (k .origins)
+
+  pub spread-tallied : (u from to : ℕ) → Tallied (counted (ByHolder u from to)) (indexOf (ByHolder u from to)) size ps
+  spread-tallied u from to = all-map (λ p h. (h, by-holder-light u from to (p .holder))) (k .holders)
+
+  pub whole-tallied : Tallied (counted (ByBoth size)) (indexOf (ByBoth size)) (size * size) ps
+  whole-tallied = all-both (cells-inside size (k .holders) (k .origins)) (all-map (λ p o. rw (tally-square size (p .holder) (p .origin) o (k .origins)) (by-origin-light (p .holder) (p .origin))) (k .origins))
+
+  -- and what they leave
+  module _ (r room : List ℕ) where
+    pub held-filled : (v : ℕ) → size ≤ length room → r ≡ onePass size (ByOrigin v) room ps → r ≡ onto (heldRow size v ps) room
+    held-filled v fits e = e ∙ scattered _ _ size room ps fits (k .origins)
+
+    pub spread-filled : (u from to : ℕ) → size ≤ length room → r ≡ onePass size (ByHolder u from to) room ps → r ≡ onto (spreadRow size u from to ps) room
+    spread-filled u from to fits e = e ∙ scattered _ _ size room ps fits (k .holders)
+
+    pub whole-filled : size * size ≤ length room → r ≡ onePass (size * size) (ByBoth size) room ps → r ≡ onto (rows size 0 size ps) room
+    whole-filled fits e = e ∙ one-pass size room fits (k .holders) (k .origins)
 
 -- Rows one behind the other.
 pub length-row : (size v : ℕ) (ps : List Piece) → length (heldRow size v ps) ≡ size
@@ -81,7 +105,7 @@ length-rows size v (suc n) ps = length-append (heldRow size v ps) (rows size (su
 -- where row v of m starts: its number is small, and the row lies in the room
 module _ (v m : ℕ) (h : v < m) where
   square : v * m + m ≤ m * m
-  square = rw (← suc-mul) (mul-le-mul-right m h)
+  square = row-below m v m h
 
   pub row-in : (r r₀ : List ℕ) → m * m ≤ length r₀ → length r ≡ length r₀ → v * m ≤ length r
   row-in r r₀ room same = omega (arith, square)
@@ -93,11 +117,8 @@ module _ (v m : ℕ) (h : v < m) where
     small : v * m < mostVessels * mostVessels
     small = omega (arith, square, mul-le-mul few few)
 
-    pub row-start : Fits w32 (v * m)
-    row-start = record { fits = omega (arith, small) }
-
-    pub row-start-wide : Fits w64 (v * m)
-    row-start-wide = record { fits = omega (arith, small) }
+    pub row-start : (w : Width) → T (leb (mostVessels * mostVessels) (2 ^ bits w)) → Fits w (v * m)
+    row-start w = fits-under w (v * m) (mostVessels * mostVessels) small
 
     pub row-start-scaled : Fits w64 (v * m * 4)
     row-start-scaled = record { fits = omega (arith, small) }

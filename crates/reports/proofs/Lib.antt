@@ -1,4 +1,5 @@
 pub mod Scattered
+pub mod Square
 pub mod Filling
 pub mod Asked
 pub mod ReportLaws

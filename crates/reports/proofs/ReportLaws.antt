@@ -1,6 +1,6 @@
--- What the definitions of the reports say together, in document 01's words: a held row sums to what the vessel holds, whole is made of
--- held rows, spread over every minute is a column of whole, and spans that meet add up. So a definition that is changed alone falls out with
--- the others. book/proofs/Edges.antt has each check of a report at its edge.
+-- What the definitions of the reports say together, in document 01's words: how many numbers each has, a held row sums to what the vessel holds,
+-- whole is made of held rows, spread over every minute is a column of whole, and spans that meet add up. So a definition that is changed alone
+-- falls out with the others. book/proofs/Edges.antt has each check of a report at its edge.
 -- Assumes nothing.
 use mathlib.Core.Path.{_≡_, refl, sym, ap, _∙_}
 use mathlib.Core.Logic.{_≢_}
@@ -19,11 +19,18 @@ use Rattle.table.specs.Table.{piecesOf}
 use Rattle.table.proofs.Pieces.{all-map}
 use Rattle.refusal.specs.Numbers.{TOP}
 use Rattle.book.specs.declared.Head.{Head}
+use Rattle.book.specs.declared.Report.the-variants.{Held, Spread, Whole}
 use Rattle.book.specs.Head.{balanceAt, tab, addsUp}
-use Rattle.book.specs.Reports.{fromOrigin, heldRow, bornWithin, spreadRow, rows}
+use Rattle.book.specs.Reports.{fromOrigin, heldRow, bornWithin, rows, reportRow}
+use Rattle.book.proofs.BalanceLaws.{length-tab}
 use Rattle.book.proofs.Known.{adds-up, adds-balance}
 use Rattle.reports.proofs.Scattered.{row-at}
-use Rattle.reports.proofs.Filling.{length-row}
+use Rattle.reports.proofs.Filling.{length-row, length-rows}
+
+-- HOW MANY: "V numbers" of held and of spread, "V rows of V numbers" of whole.
+pub report-length : (size : ℕ) (ps : List Piece) (v u from to : ℕ)
+    → (length (reportRow size ps (Held v)) ≡ size) × (length (reportRow size ps (Spread u from to)) ≡ size) × (length (reportRow size ps Whole) ≡ size * size)
+report-length size ps v u from to = (length-row size v ps, length-tab _ 0 size, length-rows size 0 size ps)
 
 -- the sum of a row's numbers
 abbrev pub added : List ℕ → ℕ
@@ -66,7 +73,7 @@ held-adds size v (also {p = p} {ps = ps} h x) =
     ∙ omega (arith, added-one (p .origin) (eqb (p .holder) v) (p .weight) 0 size (omega arith) (omega arith), held-adds size v x)
 
 -- so on a book that adds up it is the vessel's balance
-pub held-balance : (h : Head) (t : List ℕ) → addsUp h t ≡ true → (v : ℕ) → added (heldRow (h .vessels) v (piecesOf (h .pieces) t)) ≡ balanceAt h v
+pub held-balance : (h : Head) (t : List ℕ) → addsUp h t ≡ true → (v : ℕ) → added (reportRow (h .vessels) (piecesOf (h .pieces) t) (Held v)) ≡ balanceAt h v
 held-balance h t a v = let u = adds-up h t a in held-adds (h .vessels) v (all-map (λ p f. f .origin-in) (u .sound)) ∙ sym (adds-balance h t u v)
 
 -- WHOLE: "vessel v's row starts at number v × V and is its held report."
@@ -80,7 +87,7 @@ rows-at size w (suc n) (suc v) u ps h g =
     let k : suc w + v ≡ w + suc v = omega arith in
     rw i (getD-append-add (heldRow size w ps) (rows size (suc w) n ps) (v * size + u) 0 ∙ rows-at size (suc w) n v u ps (le-of-suc-le-suc h) g ∙ rw k)
 
-pub whole-held : (size v u : ℕ) (ps : List Piece) → v < size → u < size → getD (rows size 0 size ps) (v * size + u) 0 ≡ getD (heldRow size v ps) u 0
+pub whole-held : (size v u : ℕ) (ps : List Piece) → v < size → u < size → getD (reportRow size ps Whole) (v * size + u) 0 ≡ getD (reportRow size ps (Held v)) u 0
 whole-held size v u ps h g = rows-at size 0 size v u ps h g ∙ ap (λ (w : ℕ). getD (heldRow size w ps) u 0) (omega arith)
 
 -- SPREAD over every minute is the origin's column of whole.
@@ -95,7 +102,7 @@ every-minute o v (also {p = p} h x) = rw (le-leb 0 (p .birth) (omega arith), le-
     go false false = refl
 
 pub whole-spread : (size o v : ℕ) {ps : List Piece} → o < size → v < size → All (λ p. p .birth ≤ TOP) ps
-    → getD (spreadRow size o 0 TOP ps) v 0 ≡ getD (rows size 0 size ps) (v * size + o) 0
+    → getD (reportRow size ps (Spread o 0 TOP)) v 0 ≡ getD (reportRow size ps Whole) (v * size + o) 0
 whole-spread size o v {ps} ho hv x =
     row-at (λ u. sum (bornWithin o 0 TOP u) ps) size v hv ∙ every-minute o v x ∙ sym (whole-held size v o ps hv ho ∙ row-at (λ u. sum (fromOrigin v u) ps) size o ho)
 
@@ -115,7 +122,7 @@ spans o v from m to h g (p ∷ ps) = omega (arith, go (eqb (p .holder) v) (eqb (
     go false b c e = refl
 
 pub spread-spans : (size o v from m to : ℕ) (ps : List Piece) → v < size → from ≤ m → m < to
-    → getD (spreadRow size o from m ps) v 0 + getD (spreadRow size o (m + 1) to ps) v 0 ≡ getD (spreadRow size o from to ps) v 0
+    → getD (reportRow size ps (Spread o from m)) v 0 + getD (reportRow size ps (Spread o (m + 1) to)) v 0 ≡ getD (reportRow size ps (Spread o from to)) v 0
 spread-spans size o v from m to ps hv h g =
     rw (row-at (λ u. sum (bornWithin o from m u) ps) size v hv, row-at (λ u. sum (bornWithin o (m + 1) to u) ps) size v hv, row-at (λ u. sum (bornWithin o from to u) ps) size v hv)
     (spans o v from m to h g ps)

@@ -1,5 +1,5 @@
 -- A report filled in one pass: over numbers that are 0 at first, each becomes the sum of its kind, and the numbers behind stay.
--- Shown once for any test and any index, so that held and spread are instances.
+-- Shown once for any test and any index, so that held, spread and whole are instances.
 -- Assumes nothing.
 use mathlib.Core.Path.{_≡_, refl, sym, ap, _∙_}
 use mathlib.Core.Bool.{Bool, true, false, _&&_, cond}
@@ -20,8 +20,13 @@ use Rattle.table.proofs.Table.{length-pieces}
 use Rattle.refusal.specs.Numbers.{TOP}
 use Rattle.book.specs.Head.{tab}
 use Rattle.book.specs.Reports.{onto}
-use Rattle.reports.specs.Scatter.{addAt, entered, scatter, tally, Enterable, Fillable, Tallied}
+use Rattle.reports.specs.declared.Pass.{Pass}
+use Rattle.reports.specs.Scatter.{cleared, addAt, entered, scatter, tally, Enterable, Fillable, Tallied}
 use Rattle.book.proofs.BalanceLaws.{length-tab, getD-tab}
+
+-- the arm of a `match` tells which pass it is: what f says of that one, it says of the pass
+pub told : {A : Type 0} (f : Pass → Piece → A) (pass q : Pass) (p : Piece) (x : A) → pass ≡ q → x ≡ f q p → x ≡ f pass p
+told f pass q p x e y = rw e y
 
 -- what holds of every piece holds of the one at a place
 pub all-at : {P : Piece → Type 0} {ps : List Piece} → All P ps → (i : ℕ) → i < length ps → P (getD ps i noPiece)
@@ -65,49 +70,51 @@ module _ (test : Piece → Bool) (at : Piece → ℕ) where
   tally-none n j h (also {p = p} u x) = rw (ne-eqb (at p) j (λ e. omega arith)) (omega (arith, tally-none n j h x))
 
   -- the report: n numbers cleared, and the pieces entered
-  module _ (n : ℕ) (room : List ℕ) (ps : List Piece) (fits : n ≤ length room) (u : Tallied test at n ps) where
-    abbrev cleared : List ℕ
-    cleared = replicate n 0 ++ drop n room
+  module _ (n : ℕ) (room : List ℕ) (ps : List Piece) (fits : n ≤ length room) where
+    abbrev start : List ℕ
+    start = cleared n room
 
-    length-cleared : length cleared ≡ length room
-    length-cleared = simp (length-append, length-replicate, length-drop) (omega arith)
+    abbrev sums : List ℕ
+    sums = tab (tally test at ps) 0 n
 
-    cleared-at : (j : ℕ) → j < n → getD cleared j 0 ≡ 0
-    cleared-at j h = List·getD-append (replicate n 0) (drop n room) 0 j (rw length-replicate h) ∙ getD-replicate n j 0 0 h
+    length-start : length start ≡ length room
+    length-start = simp (length-append, length-replicate, length-drop) (omega arith)
 
-    scattered : scatter test at cleared ps ≡ tab (tally test at ps) 0 n ++ drop n room
-    scattered = ext-getD 0 _ _ (length-scatter ps cleared ∙ length-cleared ∙ sym length-right) (λ j h. go j (rw (length-scatter ps cleared) at h) (ltb j n) refl)
+    start-at : (j : ℕ) → j < n → getD start j 0 ≡ 0
+    start-at j h = List·getD-append (replicate n 0) (drop n room) 0 j (rw length-replicate h) ∙ getD-replicate n j 0 0 h
+
+    pub scattered : All (λ p. at p < n) ps → scatter test at start ps ≡ onto sums room
+    scattered inside = rw length-tab (ext-getD 0 _ _ (length-scatter ps start ∙ length-start ∙ sym length-right) (λ j h. go j (rw (length-scatter ps start) at h) (ltb j n) refl))
       where
-        length-right : length (tab (tally test at ps) 0 n ++ drop n room) ≡ length room
+        length-right : length (sums ++ drop n room) ≡ length room
         length-right = simp (length-append, length-tab, length-drop) (omega arith)
 
-        go : (j : ℕ) → j < length cleared → (t : Bool) → ltb j n ≡ t → getD (scatter test at cleared ps) j 0 ≡ getD (tab (tally test at ps) 0 n ++ drop n room) j 0
+        go : (j : ℕ) → j < length start → (t : Bool) → ltb j n ≡ t → getD (scatter test at start ps) j 0 ≡ getD (sums ++ drop n room) j 0
         go j h true e =
             let l : j < n = ltb-true _ _ e in
-            let r : getD (tab (tally test at ps) 0 n ++ drop n room) j 0 ≡ tally test at ps j =
-            List·getD-append (tab (tally test at ps) 0 n) (drop n room) 0 j (rw length-tab l) ∙ row-at (tally test at ps) n j l in
-            omega (arith, scatter-at ps cleared j h, cleared-at j l)
+            let r : getD (sums ++ drop n room) j 0 ≡ tally test at ps j = List·getD-append sums (drop n room) 0 j (rw length-tab l) ∙ row-at (tally test at ps) n j l in
+            omega (arith, scatter-at ps start j h, start-at j l)
         go j h false e =
             let l : n ≤ j = ltb-false _ _ e in
-            let a : getD cleared j 0 ≡ getD (drop n room) (j - n) 0 = behind (replicate n 0) (length-replicate n 0) j l in
-            let b : getD (tab (tally test at ps) 0 n ++ drop n room) j 0 ≡ getD (drop n room) (j - n) 0 = behind (tab (tally test at ps) 0 n) (length-tab _ 0 n) j l in
-            omega (arith, scatter-at ps cleared j h, tally-none n j l (u .inside))
+            let a : getD start j 0 ≡ getD (drop n room) (j - n) 0 = behind (replicate n 0) (length-replicate n 0) j l in
+            let b : getD (sums ++ drop n room) j 0 ≡ getD (drop n room) (j - n) 0 = behind sums (length-tab _ 0 n) j l in
+            omega (arith, scatter-at ps start j h, tally-none n j l inside)
           where
             behind : (xs : List ℕ) → length xs ≡ n → (j : ℕ) → n ≤ j → getD (xs ++ drop n room) j 0 ≡ getD (drop n room) (j - n) 0
             behind xs lx j l =
                 let k : length xs + (j - n) ≡ j = omega arith in
                 ap (λ (i : ℕ). getD (xs ++ drop n room) i 0) (sym k) ∙ getD-append-add xs (drop n room) (j - n) 0
 
-    -- the numbers cleared can be filled, and filled they are the row
-    module _ (r : List ℕ) (e : r ≡ cleared) where
-      pub fillable : Fillable test at r ps
-      fillable = all-map (λ p l. each p l (rw length-cleared (omega (arith, l)))) (u .inside)
+    -- the numbers cleared can be filled, and are
+    module _ (r : List ℕ) (e : r ≡ start) where
+      pub fillable : Tallied test at n ps → Fillable test at r ps
+      fillable u = all-map (λ p (l, light). each p l light (rw length-start (omega (arith, l)))) u
         where
-          each : (p : Piece) → at p < n → at p < length cleared → (at p < length r) × (getD (scatter test at r ps) (at p) 0 ≤ TOP)
-          each p l k = rw e (k, omega (arith, scatter-at ps cleared (at p) k, cleared-at (at p) l, u .light (at p)))
+          each : (p : Piece) → at p < n → tally test at ps (at p) ≤ TOP → at p < length start → (at p < length r) × (getD (scatter test at r ps) (at p) 0 ≤ TOP)
+          each p l light k = rw e (k, omega (arith, scatter-at ps start (at p) k, start-at (at p) l))
 
-      pub filled : (r′ : List ℕ) → r′ ≡ scatter test at r ps → r′ ≡ onto (tab (tally test at ps) 0 n) room
-      filled r′ er = rw (er, e, length-tab) scattered
+      pub filled : (r′ : List ℕ) → r′ ≡ scatter test at r ps → r′ ≡ scatter test at start ps
+      filled r′ er = rw e at er
 
   -- The loop, by what is left: the number at a piece's index stays within the bound, a turn, and the end.
   module _ (n i : ℕ) (t r z : List ℕ) (e : scatter test at r (drop i (piecesOf n t)) ≡ z) (h : i < n) (p : Piece) (ep : p ≡ getD (piecesOf n t) i noPiece) where

@@ -62,6 +62,10 @@ module _ {ℓ} {P : Piece → Type ℓ} where
   all-map f done = done
   all-map f (also h x) = also (f _ h) (all-map f x)
 
+  pub all-both {κ} : {Q : Piece → Type κ} {ps : List Piece} → All P ps → All Q ps → All (λ p. P p × Q p) ps
+  all-both done done = done
+  all-both (also h x) (also g y) = also (h, g) (all-both x y)
+
   pub all-ifAny : (p : Piece) → (1 ≤ p .weight → P p) → All P (ifAny p)
   all-ifAny p h = go (eqb (p .weight) 0) refl
     where

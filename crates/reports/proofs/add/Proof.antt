@@ -11,10 +11,10 @@ use Rattle.reports.proofs.add.Statement.{statement}
 use Rattle.reports.proofs.add.Tie as tie
 
 abbrev Inv-loop : tie.InvT-loop
-Inv-loop table n row report₀ i₀ report i = (i ≤ n) × (length report ≡ length report₀) × (scatter (counted row) (indexOf row) report (drop i (piecesOf n table)) ≡ scatter (counted row) (indexOf row) report₀ (piecesOf n table))
+Inv-loop table n pass report₀ i₀ report i = (i ≤ n) × (length report ≡ length report₀) × (scatter (counted pass) (indexOf pass) report (drop i (piecesOf n table)) ≡ scatter (counted pass) (indexOf pass) report₀ (piecesOf n table))
 
 abbrev μ-loop : tie.MeasureT-loop
-μ-loop table n row report₀ i₀ report i = n - i
+μ-loop table n pass report₀ i₀ report i = n - i
 
 loop-holds : tie.Need-loop-holds Inv-loop μ-loop
 loop-holds c = (search needs, search needs, refl)

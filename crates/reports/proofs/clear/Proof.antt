@@ -3,14 +3,14 @@
 use borrow.Author.Needs.{needs}
 use Prim.Native.Nat.{_-_, _≤_}
 use mathlib.Core.Path.{_≡_, refl}
-use mathlib.Core.List.{_++_}
-use lib.ListN.{length, drop, replicate}
+use lib.ListN.{length}
+use Rattle.reports.specs.Scatter.{cleared}
 use Rattle.reports.proofs.Filling.{clear-next, clear-end}
 use Rattle.reports.proofs.clear.Statement.{statement}
 use Rattle.reports.proofs.clear.Tie as tie
 
 abbrev Inv-loop : tie.InvT-loop
-Inv-loop report₀ n i₀ report i = (i ≤ n) × (length report ≡ length report₀) × (report ≡ replicate i 0 ++ drop i report₀)
+Inv-loop report₀ n i₀ report i = (i ≤ n) × (length report ≡ length report₀) × (report ≡ cleared i report₀)
 
 abbrev μ-loop : tie.MeasureT-loop
 μ-loop report₀ n i₀ report i = n - i

@@ -3,31 +3,14 @@
 use borrow.Author.Needs.{needs}
 use mathlib.Core.Path.{_≡_}
 use mathlib.Core.List.{List}
-use Prim.Native.Nat.{ℕ, _*_, _≤_}
-use borrow.Author.Tests.{ltb-false}
+use Prim.Native.Nat.{ℕ}
 use Rattle.table.specs.declared.Piece.{Piece}
-use Rattle.refusal.specs.Numbers.{first}
-use Rattle.refusal.proofs.Numbers.{passed}
 use Rattle.book.specs.declared.Report.{Report}
-use Rattle.book.specs.declared.Report.the-variants.{Held, Spread, Whole}
-use Rattle.book.specs.Reports.{reportRow, reportChecks, onto}
-use Rattle.reports.proofs.Filling.{row-tallied}
+use Rattle.book.specs.Reports.{reportRow, onto}
+use Rattle.reports.proofs.Filling.{spread-tallied, spread-filled}
+use Rattle.reports.proofs.Asked.{held-room, spread-room, whole-room}
 use Rattle.reports.proofs.fill.Statement.{statement}
 use Rattle.reports.proofs.fill.Tie as tie
-
--- the room is long enough where the checks pass
-module _ (size room : ℕ) (asked : Report) where
-  held-room : (v : ℕ) → asked ≡ Held v → first (reportChecks size room asked) ≡ 0 → size ≤ room
-  unfolding reportChecks
-  held-room v a e = let (vessel, (short, end)) = passed (reportChecks size room (Held v)) tt (rw a at e) in ltb-false _ _ short
-
-  spread-room : (u from to : ℕ) → asked ≡ Spread u from to → first (reportChecks size room asked) ≡ 0 → size ≤ room
-  unfolding reportChecks
-  spread-room u from to a e = let (origin, (back, (short, end))) = passed (reportChecks size room (Spread u from to)) tt (rw a at e) in ltb-false _ _ short
-
-  whole-room : asked ≡ Whole → first (reportChecks size room asked) ≡ 0 → size * size ≤ room
-  unfolding reportChecks
-  whole-room a e = let (short, end) = passed (reportChecks size room Whole) tt (rw a at e) in ltb-false _ _ short
 
 told : (size : ℕ) (ps : List Piece) (asked q : Report) (room r : List ℕ) → asked ≡ q → r ≡ onto (reportRow size ps q) room → r ≡ onto (reportRow size ps asked) room
 told size ps asked q room r a e = rw a e
@@ -41,8 +24,8 @@ fill-held-requires c κs = search (needs, held-room)
 enum-known-asked-2 : tie.Need-enum-known-asked-2
 enum-known-asked-2 c = search needs
 
-fill-row-requires : tie.Need-fill-row-requires
-fill-row-requires c κs = search (needs, spread-room, row-tallied)
+fill-pass-requires : tie.Need-fill-pass-requires
+fill-pass-requires c κs = search (needs, spread-room, spread-tallied)
 
 enum-told : tie.Need-enum-told
 enum-told c = search needs
@@ -60,7 +43,7 @@ same-length-2 : tie.Need-same-length-2
 same-length-2 c = search needs
 
 returns-2 : tie.Need-returns-2
-returns-2 c = search (needs, told)
+returns-2 c = search (needs, told, spread-room, spread-filled)
 
 same-length-3 : tie.Need-same-length-3
 same-length-3 c = search needs
@@ -75,7 +58,7 @@ fill-spec =
     enum-known-asked
     fill-held-requires
     enum-known-asked-2
-    fill-row-requires
+    fill-pass-requires
     enum-told
     fill-whole-requires
     same-length

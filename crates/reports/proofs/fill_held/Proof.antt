@@ -1,18 +1,18 @@
--- `reports::fill_held` meets its contract: the row by origin is the held report's, by definition.
+-- `reports::fill_held` meets its contract: the pass by origin makes the held report.
 -- Assumes nothing.
 use borrow.Author.Needs.{needs}
-use Rattle.reports.proofs.Filling.{row-tallied}
+use Rattle.reports.proofs.Filling.{held-tallied, held-filled}
 use Rattle.reports.proofs.fill_held.Statement.{statement}
 use Rattle.reports.proofs.fill_held.Tie as tie
 
-fill-row-requires : tie.Need-fill-row-requires
-fill-row-requires c κs = search (needs, row-tallied)
+fill-pass-requires : tie.Need-fill-pass-requires
+fill-pass-requires c κs = search (needs, held-tallied)
 
 same-length : tie.Need-same-length
 same-length c = search needs
 
 returns : tie.Need-returns
-returns c = search needs
+returns c = search (needs, held-filled)
 
 pub fill-held-spec : {M : Type 1} → statement M
-fill-held-spec = tie.close (tie.spec fill-row-requires same-length returns)
+fill-held-spec = tie.close (tie.spec fill-pass-requires same-length returns)

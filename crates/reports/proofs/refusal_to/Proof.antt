@@ -3,24 +3,18 @@
 -- Assumes nothing.
 use borrow.Author.Needs.{needs}
 use mathlib.Core.Path.{_≡_}
-use Prim.Native.Nat.{ℕ, _*_, _≤_}
-use native.Mathlib.Nat.{mul-le-mul}
-use native.Mathlib.Omega.{arith}
-use mir.Syntax.{w32, w64}
-use mir.Val.{Fits}
+use Prim.Native.Nat.{ℕ}
 use Rattle.table.proofs.Tests.{tests}
-use Rattle.refusal.specs.Numbers.{TOP, first}
+use Rattle.refusal.specs.Numbers.{first}
 use Rattle.book.specs.declared.Report.{Report}
 use Rattle.book.specs.Reports.{reportChecks}
+use Rattle.reports.proofs.Square.{product-fits}
 use Rattle.reports.proofs.refusal_to.Statement.{statement}
 use Rattle.reports.proofs.refusal_to.Tie as tie
 
 -- what is asked is told by the arm
 told : (size room n : ℕ) (asked q : Report) → asked ≡ q → n ≡ first (reportChecks size room q) → n ≡ first (reportChecks size room asked)
 told size room n asked q e f = rw e f
-
-square : (size : ℕ) → Fits w32 size → Fits w64 (size * size)
-square size f = let h : size ≤ TOP = omega (arith, f .fits) in record { fits = omega (arith, mul-le-mul h h) }
 
 enum-known-asked : tie.Need-enum-known-asked
 enum-known-asked c = search needs
@@ -60,7 +54,7 @@ enum-told : tie.Need-enum-told
 enum-told c = search needs
 
 mul-if6 : tie.Need-mul-if6
-mul-if6 c = search (needs, square)
+mul-if6 c = search (needs, product-fits)
 
 returns-8 : tie.Need-returns-8
 unfolding reportChecks

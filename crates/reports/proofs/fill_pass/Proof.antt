@@ -1,9 +1,9 @@
--- `reports::fill_row` meets its contract: the numbers are cleared, and then each becomes the sum of its kind.
+-- `reports::fill_pass` meets its contract: the numbers are cleared, and then the pieces are entered.
 -- Assumes nothing.
 use Rattle.reports.proofs.Scattered.{fillable, filled}
 use borrow.Author.Needs.{needs}
-use Rattle.reports.proofs.fill_row.Statement.{statement}
-use Rattle.reports.proofs.fill_row.Tie as tie
+use Rattle.reports.proofs.fill_pass.Statement.{statement}
+use Rattle.reports.proofs.fill_pass.Tie as tie
 
 clear-requires : tie.Need-clear-requires
 clear-requires c κs = search needs
@@ -17,5 +17,5 @@ same-length c = search needs
 returns : tie.Need-returns
 returns c = search (needs, filled)
 
-pub fill-row-spec : {M : Type 1} → statement M
-fill-row-spec = tie.close (tie.spec clear-requires add-requires same-length returns)
+pub fill-pass-spec : {M : Type 1} → statement M
+fill-pass-spec = tie.close (tie.spec clear-requires add-requires same-length returns)
