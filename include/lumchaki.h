@@ -175,6 +175,11 @@ lumchaki_reported lumchaki_spread(lumchaki_head head, const uint32_t *table, siz
 lumchaki_reported lumchaki_whole(lumchaki_head head, const uint32_t *table, size_t table_len,
                                  uint32_t *report, size_t report_len);
 
+/* The same numbers and the same refusals in another order of work: lumchaki_whole goes over the pieces
+ * once; this one makes each row by the held report of its vessel, and is slower. */
+lumchaki_reported lumchaki_whole_by_rows(lumchaki_head head, const uint32_t *table,
+                                         size_t table_len, uint32_t *report, size_t report_len);
+
 /* A sheet is bytes, its numbers little-endian:
  *    0  the letters PROV
  *    4  rule (2 bytes)

@@ -88,6 +88,13 @@ pub extern "C" fn lumchaki_whole(head: Head, table: &[u32], report: &mut [u32]) 
 }
 
 #[no_mangle]
+pub extern "C" fn lumchaki_whole_by_rows(head: Head, table: &[u32], report: &mut [u32]) -> Reported
+    ensures { λ r. ⌜ Asks head Whole (now (table .entry)) (now (report .entry)) (now (report .exit)) r ⌝ }
+{
+    reports::whole_by_rows(head, table, report)
+}
+
+#[no_mangle]
 pub extern "C" fn lumchaki_read(sheet: &[u8]) -> Reading
     ensures { λ r. ⌜ r ≡ reading (now (sheet .entry)) ⌝ }
 {

@@ -34,8 +34,11 @@ pub trait Engine: Sync {
         report: &mut [u32],
     ) -> Reported;
 
-    /// The held report of every vessel, row by row.
+    /// The held report of every vessel, one row behind the other.
     fn whole(&self, head: Head, table: &[u32], report: &mut [u32]) -> Reported;
+
+    /// The same, where the library lends each row to the held report.
+    fn whole_by_rows(&self, head: Head, table: &[u32], report: &mut [u32]) -> Reported;
 
     /// Reads a sheet.
     fn read(&self, sheet: &[u8]) -> Reading;

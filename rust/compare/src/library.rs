@@ -49,6 +49,10 @@ impl Engine for Library {
         raw::whole(head, table, report)
     }
 
+    fn whole_by_rows(&self, head: Head, table: &[u32], report: &mut [u32]) -> Reported {
+        raw::whole_by_rows(head, table, report)
+    }
+
     fn read(&self, sheet: &[u8]) -> Reading {
         raw::read(sheet)
     }

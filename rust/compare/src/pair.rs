@@ -198,11 +198,22 @@ impl Pair {
         })
     }
 
-    /// The whole report.
+    /// The whole report, made both ways on the room as it was lent: in one pass, and row by row. They
+    /// answer the same and leave the same.
     pub fn whole(&mut self, head: Head, table: &[u32], room: &mut [u32]) -> Reported {
-        let numbers = (head.vessels as usize).pow(2);
-        self.report("whole", numbers, (head, table), room, &|engine, room| {
+        let (numbers, book) = ((head.vessels as usize).pow(2), (head, table));
+        let mut rows = room.to_vec();
+        let answer = self.report("whole", numbers, book, room, &|engine, room| {
             engine.whole(head, table, room)
-        })
+        });
+        let by_rows = self.report(
+            "whole by rows",
+            numbers,
+            book,
+            &mut rows,
+            &|engine, room| engine.whole_by_rows(head, table, room),
+        );
+        assert_eq!((by_rows, &rows[..]), (answer, &*room), "both ways");
+        answer
     }
 }

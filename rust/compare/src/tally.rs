@@ -44,7 +44,7 @@ impl Tally {
         let mut text = format!("{title}: {} answers\n", self.total());
         for (call, counts) in &self.0 {
             let counts: Vec<String> = counts.iter().map(|(n, c)| format!("{n}:{c}")).collect();
-            text += &format!("  {call:<12} {}\n", counts.join(" "));
+            text += &format!("  {call:<14} {}\n", counts.join(" "));
         }
         // A closed standard output is no fault of the calls.
         let _ = std::io::stdout().write_all(text.as_bytes());

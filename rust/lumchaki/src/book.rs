@@ -107,6 +107,26 @@ pub fn spread<'r>(
 /// The refusals 1, 4, 22 and 13, the first that applies in this order.
 pub fn whole<'r>(head: &Head, table: &[u32], report: &'r mut [u32]) -> Result<&'r [u32], Refusal> {
     accept(raw::whole(*head, table, report).number)?;
+    Ok(rows(head, report))
+}
+
+/// The same report with the same refusals in another order of work: each row is made by the held
+/// report of its vessel, so that the pieces are gone over once for each vessel. It is proved to give
+/// what [`whole`] gives; [`whole`] is faster.
+///
+/// # Errors
+/// As of [`whole`].
+pub fn whole_by_rows<'r>(
+    head: &Head,
+    table: &[u32],
+    report: &'r mut [u32],
+) -> Result<&'r [u32], Refusal> {
+    accept(raw::whole_by_rows(*head, table, report).number)?;
+    Ok(rows(head, report))
+}
+
+/// The part of the room that a whole report was written to.
+fn rows<'r>(head: &Head, report: &'r [u32]) -> &'r [u32] {
     let vessels = head.vessels as usize;
-    Ok(&report[..vessels * vessels])
+    &report[..vessels * vessels]
 }

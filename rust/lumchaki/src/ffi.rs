@@ -55,6 +55,13 @@ extern "C" {
         report: *mut u32,
         report_len: usize,
     ) -> Reported;
+    pub fn lumchaki_whole_by_rows(
+        head: Head,
+        table: *const u32,
+        table_len: usize,
+        report: *mut u32,
+        report_len: usize,
+    ) -> Reported;
     pub fn lumchaki_read(sheet: *const u8, sheet_len: usize) -> Reading;
     pub fn lumchaki_movement(sheet: *const u8, sheet_len: usize, index: u32) -> Movement;
     pub fn lumchaki_name(sheet: *const u8, sheet_len: usize, vessel: u32) -> usize;
@@ -115,6 +122,9 @@ mod tests {
                 lumchaki_whole(head, null(), 0, r, 2).number,
                 lumchaki_whole(head, null(), 0, null_mut(), 0).number,
                 lumchaki_whole(head, t, 8, null_mut(), 0).number,
+                lumchaki_whole_by_rows(head, null(), 0, r, 2).number,
+                lumchaki_whole_by_rows(head, null(), 0, null_mut(), 0).number,
+                lumchaki_whole_by_rows(head, t, 8, null_mut(), 0).number,
             ]
         };
         let [transfer, lift, tip, reports @ ..] = numbers;

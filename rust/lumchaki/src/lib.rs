@@ -46,7 +46,7 @@ mod ffi;
 pub mod raw;
 mod sheet;
 
-pub use book::{held, lift, open, spread, tip, transfer, whole, Moved};
+pub use book::{held, lift, open, spread, tip, transfer, whole, whole_by_rows, Moved};
 pub use calls::{
     places, Head, Lift, Piece, Refusal, Tip, Transfer, MOVEMENTS, MOVEMENT_BYTES, NAME_BYTES,
     PLACES, SCALE, SHEET_HEADER, VESSELS,

@@ -104,11 +104,25 @@ pub fn spread(
     }
 }
 
-/// The held report of every vessel, row by row.
+/// The held report of every vessel, one row behind the other, in one pass over the pieces.
 pub fn whole(head: Head, table: &[u32], report: &mut [u32]) -> Reported {
     // SAFETY: table and report are two slices that do not overlap.
     unsafe {
         ffi::lumchaki_whole(
+            head,
+            table.as_ptr(),
+            table.len(),
+            report.as_mut_ptr(),
+            report.len(),
+        )
+    }
+}
+
+/// The same, where each row is lent to the held report of its vessel.
+pub fn whole_by_rows(head: Head, table: &[u32], report: &mut [u32]) -> Reported {
+    // SAFETY: table and report are two slices that do not overlap.
+    unsafe {
+        ffi::lumchaki_whole_by_rows(
             head,
             table.as_ptr(),
             table.len(),

@@ -72,6 +72,11 @@ impl Engine for Plain {
         Reported { number, head }
     }
 
+    fn whole_by_rows(&self, head: Head, table: &[u32], report: &mut [u32]) -> Reported {
+        let number = number_of(report::whole_by_rows(&head, table, report));
+        Reported { number, head }
+    }
+
     fn read(&self, sheet: &[u8]) -> Reading {
         sheet::read(sheet)
     }

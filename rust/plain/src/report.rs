@@ -1,4 +1,4 @@
-//! The three reports.
+//! The three reports; whole in one pass, and by rows.
 
 use crate::book;
 use calls::{Head, Refusal};
@@ -61,16 +61,31 @@ pub fn spread(
     Ok(())
 }
 
-pub fn whole(head: &Head, table: &[u32], report: &mut [u32]) -> Result<(), Refusal> {
+/// The room of a whole report, past its checks: `vessels` rows of so many numbers.
+fn square<'r>(head: &Head, table: &[u32], report: &'r mut [u32]) -> Result<&'r mut [u32], Refusal> {
     book::check(head, table)?;
     book::check_bare(head)?;
     let vessels = head.vessels as usize;
-    if report.len() < vessels * vessels {
-        return Err(Refusal::ReportShort);
+    report
+        .get_mut(..vessels * vessels)
+        .ok_or(Refusal::ReportShort)
+}
+
+pub fn whole(head: &Head, table: &[u32], report: &mut [u32]) -> Result<(), Refusal> {
+    let report = square(head, table, report)?;
+    let vessels = head.vessels as usize;
+    report.fill(0);
+    for &[holder, origin, _, weight] in pieces(head, table) {
+        report[holder as usize * vessels + origin as usize] += weight;
     }
-    let rows = report[..vessels * vessels].chunks_exact_mut(vessels);
-    for (vessel, report) in rows.enumerate() {
-        row(pieces(head, table), vessel as u32, report);
+    Ok(())
+}
+
+pub fn whole_by_rows(head: &Head, table: &[u32], report: &mut [u32]) -> Result<(), Refusal> {
+    let report = square(head, table, report)?;
+    let rows = report.chunks_exact_mut(head.vessels as usize);
+    for (vessel, report) in (0..).zip(rows) {
+        row(pieces(head, table), vessel, report);
     }
     Ok(())
 }

@@ -147,6 +147,11 @@ impl Engine for Second {
         reported(head, numbers.and_then(|n| fill(report, &n)))
     }
 
+    /// The documents have one whole report, whatever the order of work.
+    fn whole_by_rows(&self, head: Head, table: &[u32], report: &mut [u32]) -> Reported {
+        self.whole(head, table, report)
+    }
+
     fn read(&self, sheet: &[u8]) -> Reading {
         match Sheet::read(sheet) {
             Ok(sheet) => Reading {

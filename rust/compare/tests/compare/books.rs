@@ -198,6 +198,7 @@ fn more_pieces_than_places_on_a_long_table() {
             let (mut head, mut table) = book(&mut random, rule, 20_000);
             head.vessels = 2;
             head.balances = [0; 64];
+            head.scale = 0;
             head.pieces = 4097;
             head.accepted = 4097;
             head.last = 9;

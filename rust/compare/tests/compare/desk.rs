@@ -53,14 +53,15 @@ impl Desk {
         answer.number
     }
 
-    /// The numbers of the three reports, of vessel or origin 0.
-    pub fn reports(&self) -> [u32; 3] {
+    /// The numbers of the three reports, of vessel or origin 0, and of whole by rows.
+    pub fn reports(&self) -> [u32; 4] {
         let (engine, head, table) = (self.engine, self.head, &self.table);
         let room = &mut [0; 9];
         [
             engine.held(head, table, 0, room).number,
             engine.spread(head, table, 0, (0, u32::MAX), room).number,
             engine.whole(head, table, room).number,
+            engine.whole_by_rows(head, table, room).number,
         ]
     }
 

@@ -18,6 +18,7 @@ mod sheet_order;
 mod sheets;
 mod stops;
 mod vectors;
+mod whole;
 #[cfg(feature = "library")]
 mod wrapper;
 mod written;

@@ -158,7 +158,7 @@ fn scales_that_add_up_and_others() {
             let unless_off = |number| if adds_up { number } else { 4 };
             let loaded = unless_off(if scale > 0 { LOADED } else { 0 });
             let bare = unless_off(if scale > 0 { 0 } else { BARE });
-            assert_eq!(desk.reports(), [loaded; 3], "{pieces:?} {scale}");
+            assert_eq!(desk.reports(), [loaded; 4], "{pieces:?} {scale}");
             // Each on the book as it was.
             let (head, table) = (desk.head, desk.table);
             assert_eq!(desk.transfer([0, 1, 0, 1]), loaded);

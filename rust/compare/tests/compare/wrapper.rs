@@ -1,12 +1,22 @@
 //! The typed face of the wrapper against the bare answers under it.
 
-use calls::{Head, Refusal, Transfer};
+use calls::{Head, Refusal, Reported, Transfer};
 use compare::{
     book, damage, foul_book, lift_for, loaded_book, near, room, sheet, tip_for, transfer_for,
     Random, FOUL_CLAUSES,
 };
 use lumchaki::raw;
 use std::collections::BTreeMap;
+
+/// The whole report with its bare answer, and with a result.
+type BareWhole = fn(Head, &[u32], &mut [u32]) -> Reported;
+type TypedWhole = for<'r> fn(&Head, &[u32], &'r mut [u32]) -> Result<&'r [u32], Refusal>;
+
+/// Both ways to make it.
+const WHOLE: [(BareWhole, TypedWhole); 2] = [
+    (raw::whole, lumchaki::whole),
+    (raw::whole_by_rows, lumchaki::whole_by_rows),
+];
 
 /// The number of a result, counted.
 #[derive(Default)]
@@ -78,13 +88,16 @@ fn books() {
             assert_eq!(report, &bare_numbers[..vessels as usize]);
         }
         let length = random.from_to(0, 2 * vessels * vessels) as usize;
-        let mut numbers = room(&mut random, length);
-        let mut bare_numbers = numbers.clone();
-        let bare = raw::whole(head, &table, &mut bare_numbers);
-        let result = lumchaki::whole(&head, &table, &mut numbers);
-        assert_eq!(seen.number(&result), bare.number);
-        if let Ok(report) = result {
-            assert_eq!(report, &bare_numbers[..(vessels * vessels) as usize]);
+        let lent = room(&mut random, length);
+        for (bare, typed) in WHOLE {
+            let (mut numbers, mut bare_numbers) = (lent.clone(), lent.clone());
+            let bare = bare(head, &table, &mut bare_numbers);
+            let result = typed(&head, &table, &mut numbers);
+            assert_eq!(seen.number(&result), bare.number);
+            if let Ok(report) = result {
+                assert_eq!(report, &bare_numbers[..(vessels * vessels) as usize]);
+            }
+            assert_eq!(numbers, bare_numbers);
         }
     }
     for number in [0, 1, 4, 5, 6, 7, 8, 9, 10, 11, 12, 13, 21, 22] {
