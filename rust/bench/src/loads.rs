@@ -2,7 +2,7 @@
 //! calls are timed on a book of its own: taking a head and a table apart is no part of its work.
 
 use crate::clock::best;
-use calls::{Engine, Head, Piece, Transfer, PLACES, VESSELS};
+use calls::{Engine, Head, Piece, Refusal, Reported, Transfer, PLACES, VESSELS};
 use compare::{aged_day, heaviest, working_day, Random};
 use second::{Book, Second};
 
@@ -13,7 +13,7 @@ type Timed = Option<&'static dyn Engine>;
 type Row = (&'static str, fn(&Loads, Timed) -> f64);
 
 /// The rows of the table.
-pub const ROWS: [Row; 10] = [
+pub const ROWS: [Row; 11] = [
     ("heaviest sheet, 4,096 movements", Loads::heaviest),
     ("bakery's day, 4,096 movements", Loads::day),
     ("the same day, ages in any order", Loads::aged_day),
@@ -24,10 +24,19 @@ pub const ROWS: [Row; 10] = [
     ("held report, 4,096 pieces", Loads::held),
     ("spread report, 4,096 pieces", Loads::spread),
     ("whole report, 4,096 pieces", Loads::whole),
+    ("the same, row by row", Loads::whole_by_rows),
 ];
 
 /// The light transfers that are timed together: they fill a table from 4,000 pieces to 4,096.
 const LIGHT: usize = 96;
+
+/// The numbers of a whole report.
+const SQUARE: usize = VESSELS * VESSELS;
+
+/// The time to write the numbers of a whole report, without any report.
+pub fn writing() -> f64 {
+    best(|| vec![7; SQUARE], |room| room.fill(0))
+}
 
 /// A head, its table, and the same book in the second implementation.
 struct Full {
@@ -169,6 +178,15 @@ impl Loads {
         Second.run(&self.day, &mut table).head.pieces
     }
 
+    /// The time of checks 1 and 4 on the full table: that of a report without room.
+    pub fn checks(&self, engine: &dyn Engine) -> f64 {
+        let Full { head, table, .. } = &self.full;
+        best(
+            || (),
+            |()| assert_eq!(engine.whole(*head, table, &mut []).number, 13),
+        )
+    }
+
     fn heaviest(&self, engine: Timed) -> f64 {
         run(engine, &self.heaviest)
     }
@@ -215,7 +233,15 @@ impl Loads {
         self.heap.divided(engine, &self.heavy_transfers())
     }
 
-    fn held(&self, engine: Timed) -> f64 {
+    /// The time of a report on the full table, to room for so many numbers: made by an engine, or by
+    /// the second implementation.
+    fn report(
+        &self,
+        engine: Timed,
+        numbers: usize,
+        by_engine: impl Fn(&dyn Engine, Head, &[u32], &mut [u32]) -> Reported,
+        by_second: impl Fn(&Book) -> Result<Vec<u32>, Refusal>,
+    ) -> f64 {
         let Full {
             head,
             table,
@@ -223,41 +249,48 @@ impl Loads {
         } = &self.full;
         match engine {
             Some(engine) => best(
-                || [0; VESSELS],
-                |report| assert_eq!(engine.held(*head, table, 5, report).number, 0),
+                || vec![0; numbers],
+                |report| assert_eq!(by_engine(engine, *head, table, report).number, 0),
             ),
-            None => best(|| (), |()| second.held(5)),
+            None => best(|| (), |()| by_second(second)),
         }
+    }
+
+    fn held(&self, engine: Timed) -> f64 {
+        self.report(
+            engine,
+            VESSELS,
+            |engine, head, table, report| engine.held(head, table, 5, report),
+            |second| second.held(5),
+        )
     }
 
     fn spread(&self, engine: Timed) -> f64 {
-        let Full {
-            head,
-            table,
-            second,
-        } = &self.full;
-        let span = (100, 700);
-        match engine {
-            Some(engine) => best(
-                || [0; VESSELS],
-                |report| assert_eq!(engine.spread(*head, table, 5, span, report).number, 0),
-            ),
-            None => best(|| (), |()| second.spread(5, span.0, span.1)),
-        }
+        let (from, to) = (100, 700);
+        self.report(
+            engine,
+            VESSELS,
+            |engine, head, table, report| engine.spread(head, table, 5, (from, to), report),
+            |second| second.spread(5, from, to),
+        )
     }
 
     fn whole(&self, engine: Timed) -> f64 {
-        let Full {
-            head,
-            table,
-            second,
-        } = &self.full;
-        match engine {
-            Some(engine) => best(
-                || [0; VESSELS * VESSELS],
-                |report| assert_eq!(engine.whole(*head, table, report).number, 0),
-            ),
-            None => best(|| (), |()| second.whole()),
-        }
+        self.report(
+            engine,
+            SQUARE,
+            |engine, head, table, report| engine.whole(head, table, report),
+            Book::whole,
+        )
+    }
+
+    /// The second implementation has one way for both.
+    fn whole_by_rows(&self, engine: Timed) -> f64 {
+        self.report(
+            engine,
+            SQUARE,
+            |engine, head, table, report| engine.whole_by_rows(head, table, report),
+            Book::whole,
+        )
     }
 }

@@ -11,7 +11,7 @@ mod table;
 use calls::Engine;
 use loads::Loads;
 use second::Second;
-use table::{print_ratios, Table};
+use table::{print_ratios, time, Table};
 
 /// Each engine gets so many turns at each row.
 const TURNS: usize = 3;
@@ -39,13 +39,13 @@ fn main() {
             loads.day_pieces()
         );
         let mut table = Table::new(&labels);
-        for (title, time) in loads::ROWS {
+        for (title, timed) in loads::ROWS {
             let mut times = vec![f64::MAX; labels.len()];
             // In turns, so that a busy spell of the machine does not hit one of them alone.
             for _ in 0..TURNS {
                 let engines = subjects.iter().map(|&engine| Some(engine)).chain([None]);
                 for (best, engine) in times.iter_mut().zip(engines) {
-                    *best = best.min(time(&loads, engine));
+                    *best = best.min(timed(&loads, engine));
                 }
             }
             table.row(title, times);
@@ -54,4 +54,20 @@ fn main() {
         tables.push(table);
     }
     print_ratios(&tables);
+    print_parts(&subjects);
+}
+
+/// Prints what a whole report is made of, beside its own pass over the pieces.
+fn print_parts(subjects: &[&dyn Engine]) {
+    let loads = Loads::new(0);
+    println!("\nOf a whole report:");
+    println!(
+        "{:<36}{:>16}",
+        "4,096 numbers written",
+        time(loads::writing())
+    );
+    for engine in subjects {
+        let title = format!("checks 1 and 4, {}", engine.label());
+        println!("{title:<36}{:>16}", time(loads.checks(*engine)));
+    }
 }

@@ -8,7 +8,7 @@ pub struct Table<'l> {
 }
 
 /// Seconds in a unit that fits.
-fn time(seconds: f64) -> String {
+pub fn time(seconds: f64) -> String {
     match seconds {
         s if s >= 1e-3 => format!("{:.2} ms", s * 1e3),
         s if s >= 1e-6 => format!("{:.2} µs", s * 1e6),
