@@ -60,7 +60,8 @@ module _ (m v u w x : ℕ) (hu : u < m) (hx : x < m) where
 -- what is entered there is the weight of origin u in vessel v
 pub tally-square : (m v u : ℕ) → u < m → {ps : List Piece} → All (λ p. p .origin < m) ps → tally (counted (ByBoth m)) (indexOf (ByBoth m)) ps (v * m + u) ≡ sum (fromOrigin v u) ps
 tally-square m v u h done = refl
-tally-square m v u h (also {p = p} g x) = rw (cell m (p .holder) (p .origin) v u g h) (omega (arith, go (eqb (p .origin) u && eqb (p .holder) v), tally-square m v u h x))
+tally-square m v u h (also {p = p} g x) =
+    omega (arith, ap (λ (b : Bool). only (b && true) (p .weight)) (cell m (p .holder) (p .origin) v u g h), go (eqb (p .origin) u && eqb (p .holder) v), tally-square m v u h x)
   where
     go : (b : Bool) → only (b && true) (p .weight) ≡ only b (p .weight)
     go true = refl
