@@ -256,7 +256,7 @@ impl Loads {
         }
     }
 
-    fn held(&self, engine: Timed) -> f64 {
+    pub fn held(&self, engine: Timed) -> f64 {
         self.report(
             engine,
             VESSELS,
@@ -275,7 +275,7 @@ impl Loads {
         )
     }
 
-    fn whole(&self, engine: Timed) -> f64 {
+    pub fn whole(&self, engine: Timed) -> f64 {
         self.report(
             engine,
             SQUARE,

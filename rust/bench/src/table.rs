@@ -65,7 +65,11 @@ fn bracketed(mut words: impl Iterator<Item = String>) -> String {
     first + &others
 }
 
-fn print_line(title: &str, cells: impl Iterator<Item = String>) {
-    let cells: String = cells.map(|cell| format!("{cell:>16}")).collect();
+/// Prints a title and its cells.
+pub fn print_line(title: &str, cells: impl IntoIterator<Item = String>) {
+    let cells: String = cells
+        .into_iter()
+        .map(|cell| format!("{cell:>16}"))
+        .collect();
     println!("{title:<36}{cells}");
 }
