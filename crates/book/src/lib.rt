@@ -1,5 +1,7 @@
 // The book as data: its head, which goes into a call by value, what is asked of it and what it answers. What these mean is said in specs/, and
 // what follows of that is shown in proofs/; the code is in the crates above, and no call keeps anything between two calls.
+#![tactic(auto)]
+
 
 use taking::Move;
 
@@ -14,7 +16,7 @@ pub const HOLDERS: usize = BALANCES + 1;
 
 // The head of a book. `scale` is the balance of the scale.
 #[repr(C)]
-#[derive(Drop)]
+#[derive(Clone, Copy)]
 pub struct Head {
     pub rule: u32,
     pub vessels: u32,
@@ -27,7 +29,7 @@ pub struct Head {
 
 // What opening answers.
 #[repr(C)]
-#[derive(Drop)]
+#[derive(Clone, Copy)]
 pub struct Opened {
     pub number: u32,
     pub head: Head,
@@ -37,7 +39,7 @@ pub struct Opened {
 pub const MOST_AGE: u32 = 65535;
 
 // A transfer of weight from a vessel to another at a minute. What is born was milled `age` minutes before.
-#[derive(Drop)]
+#[derive(Clone, Copy)]
 pub struct Transfer {
     pub source: u32,
     pub destination: u32,
@@ -47,7 +49,7 @@ pub struct Transfer {
 }
 
 // Weight taken from a vessel onto the scale at a minute: a transfer whose destination is yet to come.
-#[derive(Drop)]
+#[derive(Clone, Copy)]
 pub struct Lift {
     pub source: u32,
     pub minute: u32,
@@ -56,14 +58,14 @@ pub struct Lift {
 }
 
 // The scale emptied into a vessel at a minute.
-#[derive(Drop)]
+#[derive(Clone, Copy)]
 pub struct Tip {
     pub destination: u32,
     pub minute: u32,
 }
 
 // What transfer, lift and tip do to a book: the move of pieces, the minute, and how often it counts as a transfer.
-#[derive(Drop)]
+#[derive(Clone, Copy)]
 pub struct Motion {
     pub moves: Move,
     pub minute: u32,
@@ -72,7 +74,7 @@ pub struct Motion {
 
 // What a transfer or a lift answers: how many pieces moved whole, how many were split, the weight born.
 #[repr(C)]
-#[derive(Drop)]
+#[derive(Clone, Copy)]
 pub struct Transferred {
     pub number: u32,
     pub head: Head,
@@ -83,7 +85,7 @@ pub struct Transferred {
 
 // What a tip answers.
 #[repr(C)]
-#[derive(Drop)]
+#[derive(Clone, Copy)]
 pub struct Tipped {
     pub number: u32,
     pub head: Head,
@@ -91,7 +93,7 @@ pub struct Tipped {
 
 // What a report is asked for: the weight by origin in a vessel; the weight in each vessel that was born at an origin from a minute to a
 // minute; the first of all vessels.
-#[derive(Drop)]
+#[derive(Clone, Copy)]
 pub enum Report {
     Held(u32),
     Spread(u32, u32, u32),
@@ -100,7 +102,7 @@ pub enum Report {
 
 // What a report answers.
 #[repr(C)]
-#[derive(Drop)]
+#[derive(Clone, Copy)]
 pub struct Reported {
     pub number: u32,
     pub head: Head,

@@ -1,4 +1,6 @@
 // A motion carried out on a book that adds up: the pieces are moved, and two balances change.
+#![tactic(auto)]
+
 ghost use Rattle.std.specs.Prelude.{◌≡◌, false, ◌≤◌};
 ghost use Rattle.book.specs.Transfer.{motionOf};
 ghost use Rattle.book.specs.Scale.{liftMotion, tipMotion};

@@ -8,7 +8,7 @@ use crate::bytes::{read8, read16, read32};
 use crate::layout::{ENTRY_SIZE, GIVEN_SIZE};
 
 // A movement as the sheet has it. The age that the writer is given may be too large for its two bytes.
-#[derive(Drop)]
+#[derive(Clone, Copy)]
 pub struct Entry {
     pub source: u32,
     pub destination: u32,

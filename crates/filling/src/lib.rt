@@ -1,5 +1,7 @@
 // What a report writes, at the start of room that the caller lends: one pass over the pieces, which adds each that counts at its number; whole also
 // row by row.
+#![tactic(auto)]
+
 ghost use Rattle.std.specs.Prelude.{◌≡◌, ◌≤◌, ◌*◌, length};
 ghost use Rattle.table.specs.Table.{pieces_of};
 ghost use Rattle.refusal.specs.Numbers.{first};
@@ -11,7 +13,7 @@ use book::Report;
 use table::Piece;
 
 // A pass over the pieces: which of them count, and at which number each is entered.
-#[derive(Drop)]
+#[derive(Clone, Copy)]
 enum Pass {
     // the pieces that a vessel holds, each at its origin
     ByOrigin(u32),

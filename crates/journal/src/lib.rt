@@ -1,4 +1,6 @@
 // A list of calls carried out on a fresh book, from a lent slice of numbers.
+#![tactic(auto)]
+
 ghost use Rattle.std.specs.Prelude.{◌≡◌, false, ◌≤◌, ◌<◌, ◌+◌, ◌*◌, min, length, get_or, drop};
 ghost use Rattle.book.specs.Transfer.{mostAge};
 ghost use Rattle.book.specs.Calls.{post, lift, tip};

@@ -1,4 +1,6 @@
 // The listing program: reads a sheet from standard input, runs it on a table of 4,096 places and prints the run.
+#![tactic(auto)]
+
 use fields::layout::{ENTRY_SIZE, HEADER_SIZE, MOST_MOVEMENTS, NAME_SIZE};
 use ledger::opening::VESSELS;
 use libc::{STDIN_FILENO, STDOUT_FILENO};

@@ -1,4 +1,6 @@
 // The listing of a run as text, put into bytes that the caller lends.
+#![tactic(auto)]
+
 ghost use Rattle.std.specs.Prelude.{◌+◌, ◌*◌, ◌≤◌, length};
 ghost use Rattle.table.specs.Table.{pieces_of};
 ghost use Rattle.text.specs.Text.{Put};

@@ -1,5 +1,7 @@
 // The library for C and Rust: every public call under a name of its own. include/lumchaki.h declares them.
 // A slice passes as a pointer and a length. Each contract is the one of the call behind it.
+#![tactic(auto)]
+
 ghost use Rattle.std.specs.Prelude.{◌≡◌, length};
 ghost use Rattle.book.specs.Head.{opening};
 ghost use Rattle.book.specs.declared.Report.TheVariants.{Held, Spread, Whole};

@@ -1,5 +1,7 @@
 // The pieces part of a transfer, in a constant number of passes over the table: the source's pieces are put in picking order, a plan
 // is made, and only if there is room for what it leaves is it applied.
+#![tactic(auto)]
+
 ghost use Rattle.moving.specs.Applied.{Ready, Moves};
 
 use taking::Move;
@@ -16,7 +18,7 @@ const LIFTED_PLACES: usize = table::PLACES + 1;
 pub const LIFTED: usize = 4 * LIFTED_PLACES;
 
 // A transfer's answer and the count of pieces after it; or full, and nothing is changed.
-#[derive(Drop)]
+#[derive(Clone, Copy)]
 pub struct Applied {
     pub full: bool,
     pub whole: u32,

@@ -1,4 +1,6 @@
 // The names of the vessels, eight bytes each: 1 to 8 bytes of 21 to 7E hexadecimal, then zeros.
+#![tactic(auto)]
+
 ghost use Rattle.std.specs.Prelude.{◌≡◌, ◌<◌, ◌≤◌, ◌*◌, length};
 ghost use Rattle.book.specs.Head.{same, allZero};
 ghost use Rattle.fields.specs.Layout.{nameSize};

@@ -6,7 +6,7 @@ ghost use Rattle.picking.specs.Plan.{inOrder, planFrom};
 use crate::selection::{Order, nth};
 
 // How many pieces go whole, and the weight still wanted then.
-#[derive(Drop)]
+#[derive(Clone, Copy)]
 pub struct Plan {
     pub whole: usize,
     pub left: u32,

@@ -1,4 +1,6 @@
 // Posting to a book: transfer, lift and tip, each by its checks, the pieces moved, and the next head.
+#![tactic(auto)]
+
 ghost use Rattle.std.specs.Prelude.{◌≡◌};
 ghost use Rattle.book.specs.Calls.{post, lift};
 ghost use Rattle.carrying.specs.Carrying.{Audited, Workable};

@@ -1,5 +1,7 @@
 // The refusal numbers of document 01, "Numbers and their words", and of the requests of document 02. 0 is acceptance.
 // The word that they give a number stands behind it.
+#![tactic(auto)]
+
 
 pub const TABLE_SHORT: u32 = 1; // no tray
 

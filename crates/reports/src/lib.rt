@@ -1,4 +1,6 @@
 // Reports: the weight by origin in a vessel, by vessel from an origin, and all of it. Each writes to room that the caller lends.
+#![tactic(auto)]
+
 ghost use Rattle.std.specs.Prelude.{◌≡◌, ◌∷◌};
 ghost use Rattle.refusal.specs.Numbers.{first};
 ghost use Rattle.book.specs.declared.Report.TheVariants.{Held, Spread, Whole};

@@ -1,4 +1,6 @@
 // The round trip of a movement sheet: what was read is written again. proofs/RoundTrip.antt has it of both ways.
+#![tactic(auto)]
+
 ghost use Rattle.std.specs.Prelude.{◌≡◌, ◌≤◌, ◌+◌, ◌*◌, length};
 ghost use Rattle.std.proofs.lemmas.List.Edits.{sets};
 ghost use Rattle.fields.specs.Movements.{givenSize};

@@ -1,4 +1,6 @@
 // A run of a sheet: its movements made one after the other on a fresh book.
+#![tactic(auto)]
+
 ghost use Rattle.std.specs.Prelude.{◌≡◌, ◌<◌, ◌≤◌, ◌+◌};
 ghost use Rattle.refusal.specs.Numbers.{ifZero};
 ghost use Rattle.book.specs.Head.{emptyHead};
@@ -13,7 +15,7 @@ use book::{Head, Transfer, Transferred};
 // What a run yields: the number of the movement that stopped it or 0, that movement's index or the count of all, the even count, and
 // the head after the last accepted movement.
 #[repr(C)]
-#[derive(Drop)]
+#[derive(Clone, Copy)]
 pub struct Ran {
     pub number: u32,
     pub index: u32,

@@ -1,6 +1,6 @@
 // What reading a sheet yields.
 #[repr(C)]
-#[derive(Drop)]
+#[derive(Clone, Copy)]
 pub struct Reading {
     pub number: u32,
     pub rule: u32,
@@ -10,7 +10,7 @@ pub struct Reading {
 
 // What asking for a movement yields.
 #[repr(C)]
-#[derive(Drop)]
+#[derive(Clone, Copy)]
 pub struct Movement {
     pub number: u32,
     pub source: u32,

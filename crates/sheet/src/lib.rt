@@ -1,5 +1,7 @@
 // The movement sheet: read, and asked for a movement or a name.
 // Any bytes of any length may come in; a refusal has its number, and all else is 0 or empty.
+#![tactic(auto)]
+
 ghost use Rattle.std.specs.Prelude.{◌≡◌, ◌<◌, ◌≤◌, length};
 ghost use Rattle.fields.specs.Layout.{headerSize};
 ghost use Rattle.sheet.specs.Sheet.{movementsOf, readNumber};

@@ -1,4 +1,6 @@
 // The pieces of a book, in a lent table of 32-bit numbers: four for a piece, in order of receipt.
+#![tactic(auto)]
+
 ghost use Rattle.std.specs.Prelude.{◌≡◌, ◌<◌, ◌≤◌, ◌*◌, length};
 ghost use Rattle.table.specs.Pieces.{ofWeight, handTo};
 ghost use Rattle.table.specs.Table.{pieceIn, put_in, places_of};
@@ -9,7 +11,7 @@ pub mod closing; // closing.rt: pieces close up where others have gone
 pub const PLACES: usize = 4096;
 
 // Weight of one origin and birth minute, in one vessel.
-#[derive(Drop)]
+#[derive(Clone, Copy)]
 pub struct Piece {
     pub holder: u32,
     pub origin: u32,

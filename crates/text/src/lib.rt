@@ -1,4 +1,6 @@
 // Texts and decimal numbers put into bytes, where each function yields the index behind what it put; and read from them.
+#![tactic(auto)]
+
 ghost use Rattle.std.specs.Prelude.{◌≡◌, ◌+◌, ◌<◌, ◌≤◌, length, drop};
 ghost use Rattle.text.specs.Digits.{mostDigits, decimal, lastDigit};
 ghost use Rattle.text.specs.Text.{Put, word};

@@ -1,6 +1,8 @@
 // Worked vectors: each line of the file stdin is one, and what is shown of it is held to the file stdout. A line is a heading (`#`), a list
 // of calls (`calls`, the rule, the calls), or a sheet (the rule, the movements), which is written, run and listed. The first are document
 // 01's, K1 to K10; the others tell apart what those can't.
+#![tactic(auto)]
+
 ghost use Rattle.std.specs.Prelude.{◌≡◌, ◌+◌, ◌≤◌, min, length, get_or, drop};
 ghost use Rattle.vectors.specs.Vectors.{heading, line_of, VectorWritten, vectorListing, answersRoom, reportRoom, shown};
 

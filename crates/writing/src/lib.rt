@@ -1,5 +1,7 @@
 // Writing a movement sheet from a rule, names and numbers.
 // Any numbers and bytes may come in; a refusal has its number, and writes nothing.
+#![tactic(auto)]
+
 ghost use Rattle.std.specs.Prelude.{◌≡◌, length};
 ghost use Rattle.writing.specs.Writing.{writeNumber, written};
 
