@@ -27,13 +27,19 @@ use Rattle.book.proofs.BalanceLaws.{Holders, Matches, matches-balances, balances
 
 -- what is left of the balances after p, at v
 module _ (rest : List ℕ) (p : Piece) (ps : List Piece) (small : p.holder < mostHolders) where
+  there : (l : List ℕ) {v : ℕ} → p.holder ≡ v → get_or l p.holder 0 ≡ get_or l v 0
+  there l q = ap (λ (v : ℕ). get_or l v 0) q
+
+  at_holder : p.holder < length rest → get_or (drawn rest p) p.holder 0 ≡ get_or rest p.holder 0 - p.weight
+  at_holder h = get_or-set_same rest p.holder (get_or rest p.holder 0 - p.weight) 0 h
+
   left-matches : p.weight ≤ get_or rest p.holder 0 → length rest ≡ mostHolders → Matches (drawn rest p) ps → Matches rest (p ∷ ps)
   left-matches w long m = record { long = long; each = λ v h. go v h (eqb p.holder v) refl }
     where
       go : (v : ℕ) → v < mostHolders → (t : Bool) → eqb p.holder v ≡ t → get_or rest v 0 ≡ held v (p ∷ ps)
       go v h true e =
           let q : p.holder ≡ v = eqb-true _ _ e in
-          rw (e, ← q) (omega (arith, m.each p.holder small, get_or-set_same rest p.holder (get_or rest p.holder 0 - p.weight) 0 (rw long small)))
+          rw e (omega (arith, m.each v h, at_holder (rw long small), there rest q, there (drawn rest p) q))
       go v h false e =
           rw e (omega (arith, m.each v h, get_or-set_other rest p.holder v (get_or rest p.holder 0 - p.weight) 0 (λ z. eqb-false _ _ e (sym z))))
 
@@ -43,7 +49,7 @@ module _ (rest : List ℕ) (p : Piece) (ps : List Piece) (small : p.holder < mos
       go : (v : ℕ) → v < mostHolders → (t : Bool) → eqb p.holder v ≡ t → get_or rest v 0 ≡ held v (p ∷ ps) → get_or (drawn rest p) v 0 ≡ held v ps
       go v h true e k =
           let q : p.holder ≡ v = eqb-true _ _ e in
-          rw (← q) (omega (arith, rw (e, ← q) at k, get_or-set_same rest p.holder (get_or rest p.holder 0 - p.weight) 0 (rw m.long small)))
+          omega (arith, rw e at k, at_holder (rw m.long small), there rest q, there (drawn rest p) q)
       go v h false e k = get_or-set_other rest p.holder v _ 0 (λ z. eqb-false _ _ e (sym z)) ∙ omega (arith, rw e at k)
 
 module _ (size last : ℕ) (small : size ≤ mostVessels) where

@@ -1,0 +1,8 @@
+-- `audit::is_balanced` meets its contract: the balances are copied, and the scale's is put behind them.
+-- Assumes nothing.
+use Rattle.ledger.proofs.Drained.{drawn-all}
+use borrow.Author.Rules.{rules}
+use Rattle.ledger.proofs.audit.is_balanced.Goals as goal
+
+pub returns : goal.returns
+returns c = search (rules, drawn-all)

@@ -1,0 +1,14 @@
+-- `apply::put_remainder` meets its contract: nothing is wanted, or the next piece is split, or there is none and the rest is born.
+-- Assumes nothing.
+use borrow.Author.Rules.{rules}
+use Rattle.moving.proofs.Remainder.{remains-none, remains-split, remains-born}
+use Rattle.moving.proofs.apply.put_remainder.Goals as goal
+
+pub returns-then-left-eq0 : goal.returns-then-left-eq0
+returns-then-left-eq0 c = search (rules, remains-none)
+
+pub returns-then-whole-order : goal.returns-then-whole-order
+returns-then-whole-order c = search (rules, remains-split)
+
+pub returns : goal.returns
+returns c = search (rules, remains-born)

@@ -1,0 +1,16 @@
+-- `move_pieces` meets its contract: what the order and its plan promise tells whether there is room, and if so, what applying the
+-- plan leaves is what is asked (proofs/Moving.antt).
+-- Assumes nothing.
+use borrow.Author.Rules.{rules}
+use Rattle.moving.proofs.Moving.{move-refused, move-ready, move-applied}
+use Rattle.moving.proofs.move_pieces.Goals as goal
+
+pub returns-then-is_full : goal.returns-then-is_full
+returns-then-is_full c = search (rules, move-refused)
+
+pub apply-requires : goal.apply-requires
+apply-requires c = move-ready c.requires c.picking_order-order.ensures c.plan_of-plan.ensures c.is_full.ensures c.if-is_full.false
+
+pub returns : goal.returns
+returns c =
+    move-applied c.requires c.picking_order-order.ensures c.plan_of-plan.ensures c.is_full.ensures c.if-is_full.false c.apply.ensures
