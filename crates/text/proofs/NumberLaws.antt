@@ -18,8 +18,8 @@ pub none-behind : (text : List ℕ) (i : ℕ) → length text ≤ i → false �
 none-behind text i h = rw (get_or-eq_default text 0 h)
 
 -- a digit is not below 0
-pub digit_low : (text : List ℕ) (i : ℕ) (t : Bool) → t ≡ digitAt text i → not t ≡ false → zeroDigit ≤ get_or text i 0
-digit_low text i t e q = leb-true zeroDigit (get_or text i 0) (go (leb zeroDigit (get_or text i 0)) (sym e ∙ not-false t q))
+pub digit_low : (text : List ℕ) (i : ℕ) (t : Bool) → t ≡ digitAt text i → t ≡ true → zeroDigit ≤ get_or text i 0
+digit_low text i t e q = leb-true zeroDigit (get_or text i 0) (go (leb zeroDigit (get_or text i 0)) (sym e ∙ q))
   where
     go : (u : Bool) → u && leb (get_or text i 0) nineDigit ≡ true → u ≡ true
     go true _ = refl
@@ -63,17 +63,17 @@ module _ (text out₀ out : List ℕ) (at n i : ℕ) (r : Reading text out₀ ou
         counted = rw left at r.counted;
       }
 
-  pub other-turn : (t : Bool) → t ≡ digitAt text i → not t ≡ true → Reading text out₀ out at n (i + 1)
-  other-turn t e q = on n (at_other text n i h (sym e ∙ not-true t q))
+  pub other-turn : (t : Bool) → t ≡ digitAt text i → t ≡ false → Reading text out₀ out at n (i + 1)
+  other-turn t e q = on n (at_other text n i h (sym e ∙ q))
 
   module _
-      (t u : Bool) (m : ℕ) (e : t ≡ digitAt text i) (q : not t ≡ false) (s : m ≡ withDigit n (get_or text i 0)) (f : u ≡ digitAt text (i + 1)) where
+      (t u : Bool) (m : ℕ) (e : t ≡ digitAt text i) (q : t ≡ true) (s : m ≡ withDigit n (get_or text i 0)) (f : u ≡ digitAt text (i + 1)) where
     pub digit-turn : u ≡ true → Reading text out₀ out at m (i + 1)
-    digit-turn v = on m (at-digit text n i h m s (sym e ∙ not-false t q) (sym f ∙ v))
+    digit-turn v = on m (at-digit text n i h m s (sym e ∙ q) (sym f ∙ v))
 
     pub last_turn : (after : List ℕ) → u ≡ false → after ≡ set out at m → Reading text out₀ after (at + 1) 0 (i + 1)
     last_turn after v p =
-        let left = at_last text n i h m s (sym e ∙ not-false t q) (sym f ∙ v) in
+        let left = at_last text n i h m s (sym e ∙ q) (sym f ∙ v) in
         record {
           within = omega arith;
           kept = ap length p ∙ length-set out at m ∙ r.kept;

@@ -7,7 +7,7 @@ use Prim.Native.Nat.{ℕ}
 use Rattle.table.specs.declared.Piece.{Piece}
 use Rattle.book.specs.declared.Report.{Report}
 use Rattle.book.specs.Reports.{reportRow, onto}
-use Rattle.filling.proofs.Filling.{spread-tallied}
+use Rattle.filling.proofs.Filling.{spread-tallied, spread-filled}
 use Rattle.book.proofs.ReportLaws.{held-room, spread-room, whole_room}
 use Rattle.filling.proofs.fill.Goals as goal
 
@@ -24,4 +24,4 @@ pub fill_whole-requires : goal.fill_whole-requires
 fill_whole-requires c = search (rules, whole_room)
 
 pub returns-in-Spread : goal.returns-in-Spread
-returns-in-Spread c = search (rules, told)
+returns-in-Spread c = search (rules, told, spread-room, spread-filled)
