@@ -24,7 +24,7 @@ FNR == 1 {
     block = modules = 0
 }
 
-/^(ghost )?use Rattle/ { import($0); next }
+/^(ghost )?use Rattle[.]/ { import($0); next }
 side == "src" { code($0); next }
 { definition($0) }
 
@@ -40,15 +40,14 @@ END {
 
 # ---- reading
 
-# Keeps where the names of a `use` come from: `Rattle·book.specs.Head.{a, b}` in this file.
+# Keeps where the names of a `use` come from: `Rattle.book.specs.Head.{a, b}` in this file.
 function import(line,    at, from, n, i, names) {
-    sub(/^(ghost )?use Rattle·/, "", line)
+    sub(/^(ghost )?use Rattle[.]/, "", line)
     at = index(line, ".{")
     if (!at) return
     from = substr(line, 1, at - 1)
     line = substr(line, at + 2)
     sub(/[}].*/, "", line)
-    sub(/·(specs|proofs)/, "", from) # so a crate names modules of its own
     gsub(/[.]/, "/", from)
     n = split(line, names, /, */)
     for (i = 1; i <= n; i++) imported[file, names[i]] = "crates/" from ".antt"

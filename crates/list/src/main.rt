@@ -1,9 +1,16 @@
 // The listing program: reads a sheet from standard input, runs it on a table of 4,096 places and prints the run.
 #![tactic(auto)]
 
+ghost use Rattle.std.specs.Prelude.{take, replicate, OnOk, IfSome};
+ghost use Rattle.std.specs.Io.KnownBytes.{Appends};
+ghost use Rattle.listing.specs.Listing.{sheetListing};
+ghost use Rattle.list.specs.declared.TheConstants.{SHEET, TABLE};
+
 use fields::layout::{ENTRY_SIZE, HEADER_SIZE, MOST_MOVEMENTS, NAME_SIZE};
 use ledger::opening::VESSELS;
-use libc::{STDIN_FILENO, STDOUT_FILENO};
+use std::alloc::Global;
+use std::io;
+use std::io::{Read, Write};
 
 // The longest sheet.
 const LONGEST: usize = HEADER_SIZE + NAME_SIZE * (VESSELS as usize) + ENTRY_SIZE * MOST_MOVEMENTS;
@@ -14,11 +21,19 @@ const SHEET: usize = LONGEST + 1;
 // The numbers of all places.
 const TABLE: usize = 4 * table::PLACES;
 
-fn main() {
-    let mut sheet = [0u8; SHEET];
+// Reads a sheet from the input, and writes its listing to the output.
+fn list<R: Read + Drop, W: Write>(alloc: Global, input: R, output: &mut W) -> io::Result<()>
+    ensures { OnOk result (IfSome (R.remaining input)
+        (λ bytes. Appends (W.contents output.old) (W.contents output.new) (sheetListing (take SHEET bytes) (replicate TABLE 0)))) }
+{
+    let mut sheet = Vec::new(alloc);
+    input.take(SHEET as u64).read_to_end(&mut sheet)?;
     let mut table = [0u32; TABLE];
     let mut text = [0u8; listing::ROOM];
-    let got = io::read_full(STDIN_FILENO, &mut sheet);
-    let put = listing::list_sheet(&sheet[..got], &mut table, &mut text);
-    io::write_all(STDOUT_FILENO, &text[..put]);
+    let size = listing::list_sheet(&sheet, &mut table, &mut text);
+    output.write_all(&text[..size])
+}
+
+fn main(rt: HostRuntime) -> io::Result<()> {
+    list(rt.alloc(), rt.stdin(), &mut rt.stdout())
 }

@@ -8,6 +8,12 @@ use Rattle.writing.specs.Writing.{countGiven, written}
 use Rattle.listing.specs.Listing.{sheetListing}
 use Rattle.text.specs.Numbers.{numbersIn}
 
+abbrev pub space : ℕ
+space = 0x20
+
+abbrev pub newline : ℕ
+newline = 0x0a
+
 abbrev pub vessels : ℕ
 vessels = 3
 
@@ -69,6 +75,35 @@ answersRoom = 13
 abbrev pub reportRoom : ℕ
 reportRoom = vessels * vessels
 
+-- shows where nothing is written
+abbrev pub unwritten : ℕ
+unwritten = 99
+
+-- the numbers of a list of calls, as many as there is room for: the rule, then those of its calls
+abbrev pub callNumbers : List ℕ → List ℕ
+callNumbers text = take (1 + callSize * answersRoom) (numbersIn text)
+
+-- numbers on a line, each with a space behind it
+pub numbersText : List ℕ → List ℕ
+numbersText [] = []
+numbersText (n ∷ ns) = (decimal n ++ (space ∷ [])) ++ numbersText ns
+
+abbrev pub numbersLine : List ℕ → List ℕ
+numbersLine ns = numbersText ns ++ (newline ∷ [])
+
+-- What is shown of a list of calls: the number of each, and the room after. A list that is refused leaves both as they were.
+abbrev pub callsListing : List ℕ → List ℕ
+callsListing text =
+    let rule = get_or (callNumbers text) 0 0 in
+    let calls = drop 1 (callNumbers text) in
+    let answers = replicate answersRoom unwritten in
+    let room = replicate reportRoom unwritten in
+    let count = countCalls calls answers in
+    let k = carried count calls (opening rule vessels).head (replicate tableRoom 0) room in
+    ifZero (carryNumber rule vessels calls answers)
+    (numbersLine (k.numbers ++ drop count answers) ++ numbersLine k.room)
+    (numbersLine answers ++ numbersLine room)
+
 -- The first byte of a line tells what it is: `#` a heading, `c` a list of calls.
 abbrev pub heading : ℕ
 heading = 0x23
@@ -76,16 +111,17 @@ heading = 0x23
 abbrev pub callsMark : ℕ
 callsMark = 0x63
 
--- how many bytes or numbers are shown of a line; an empty one is a heading
-unfoldable pub shown : List ℕ → ℕ
+-- a line as it is
+abbrev pub headingLine : List ℕ → List ℕ
+headingLine line = line ++ (newline ∷ [])
+
+-- what is shown of a line; an empty one is a heading
+unfoldable pub shown : List ℕ → List ℕ
 shown line =
     let first = get_or line 0 heading in
-    cond (eqb first heading) (length line) (cond (eqb first callsMark) (answersRoom + reportRoom) (length (vectorListing line)))
+    cond (eqb first heading) (headingLine line) (cond (eqb first callsMark) (callsListing line) (vectorListing line))
 
 -- the bytes of a text before its first newline
-abbrev pub newline : ℕ
-newline = 0x0a
-
 unfoldable pub line_of : List ℕ → List ℕ
 line_of [] = []
 line_of (b ∷ bs) = cond (eqb b newline) [] (b ∷ line_of bs)

@@ -3,14 +3,14 @@
 // 01's, K1 to K10; the others tell apart what those can't.
 #![tactic(auto)]
 
-ghost use Rattle.std.specs.Prelude.{◌≡◌, ◌+◌, ◌≤◌, min, length, get_or, drop};
-ghost use Rattle.vectors.specs.Vectors.{heading, line_of, VectorWritten, vectorListing, answersRoom, reportRoom, shown};
+ghost use Rattle.std.specs.Prelude.{◌≡◌, ◌+◌, ◌≤◌, min, length, get_or, drop, OnOk};
+ghost use Rattle.std.specs.Io.KnownBytes.{Appends};
+ghost use Rattle.vectors.specs.Vectors.{heading, line_of, headingLine, VectorWritten, vectorListing, callsListing, numbersLine, shown};
 
 use fields::layout::{ENTRY_SIZE, GIVEN_SIZE, HEADER_SIZE, NAME_SIZE};
 use journal::CALL_SIZE;
-use libc::{STDIN_FILENO, STDOUT_FILENO};
-
-const INPUT: usize = 8192; // bytes of all vectors at most
+use std::io;
+use std::io::{Read, Write};
 
 const VESSELS: usize = 3; // A, B, C
 
@@ -54,44 +54,32 @@ fn write_vector(text: &[u8], sheet: &mut [u8]) -> usize
     HEADER_SIZE + NAME_SIZE * VESSELS + ENTRY_SIZE * ((count - from) / GIVEN_SIZE)
 }
 
-// Lists movements between three vessels, and prints the listing. What is known of it is its length.
-fn show(text: &[u8]) -> usize
-    ensures { result ≡ length (vectorListing text.now) }
+// Writes the listing of movements between three vessels.
+fn show<W: Write>(text: &[u8], out: &mut W) -> io::Result<()>
+    ensures { OnOk result (Appends (W.contents out.old) (W.contents out.new) (vectorListing text.now)) }
 {
     let mut sheet = [0u8; SHEET];
     let mut table = [0u32; TABLE];
-    let mut out = [0u8; listing::ROOM];
+    let mut listed = [0u8; listing::ROOM];
     let size = write_vector(text, &mut sheet);
-    let n = listing::list_sheet(&sheet[0..size], &mut table, &mut out);
-    io::write_all(STDOUT_FILENO, &out[0..n]);
-    n
+    let n = listing::list_sheet(&sheet[0..size], &mut table, &mut listed);
+    out.write_all(&listed[0..n])
 }
 
-// Prints a number and a space behind it, and says how many numbers that were.
-fn print_number(n: u32) -> usize
-    ensures { result ≡ 1 }
+// Writes numbers on a line, each with a space behind it.
+fn print_line<W: Write>(numbers: &[u32], out: &mut W) -> io::Result<()>
+    ensures { OnOk result (Appends (W.contents out.old) (W.contents out.new) (numbersLine numbers.now)) }
 {
-    io::print_decimal(STDOUT_FILENO, n as u64);
-    io::write_all(STDOUT_FILENO, b" ");
-    1
-}
-
-// Prints numbers on a line, and says how many.
-fn print_line(numbers: &[u32]) -> usize
-    ensures { result ≡ length numbers.now }
-{
-    let mut i: usize = 0;
-    while i < numbers.len() {
-        i += print_number(numbers[i]);
+    for n in numbers {
+        write!(out, "{n} ")?;
     }
-    io::write_all(STDOUT_FILENO, b"\n");
-    i
+    out.write_all(b"\n")
 }
 
-// Carries out a list of calls on a fresh book of three vessels, and prints the number of each and the room after. Demand 3 is in the
+// Carries out a list of calls on a fresh book of three vessels, and writes the number of each and the room after. Demand 3 is in the
 // contract of `carry_out`.
-fn show_calls(text: &[u8]) -> usize
-    ensures { result ≡ answersRoom + reportRoom }
+fn show_calls<W: Write>(text: &[u8], out: &mut W) -> io::Result<()>
+    ensures { OnOk result (Appends (W.contents out.old) (W.contents out.new) (callsListing text.now)) }
 {
     let mut calls = [0u32; 1 + CALL_SIZE * CALLS];
     let mut table = [0u32; TABLE];
@@ -107,16 +95,8 @@ fn show_calls(text: &[u8]) -> usize
         &mut answers,
         &mut room,
     );
-    print_line(&answers) + print_line(&room)
-}
-
-// Prints a line as it is, and says how many bytes it has.
-fn print_heading(line: &[u8]) -> usize
-    ensures { result ≡ length line.now }
-{
-    io::write_all(STDOUT_FILENO, line);
-    io::write_all(STDOUT_FILENO, b"\n");
-    line.len()
+    print_line(&answers, out)?;
+    print_line(&room, out)
 }
 
 // The first byte of a line, which tells what it is; an empty line is a heading.
@@ -129,18 +109,26 @@ fn kind(line: &[u8]) -> u8
     line[0]
 }
 
-// Shows a line.
-fn show_line(line: &[u8]) -> usize
-    ensures { result ≡ shown line.now }
+// Writes a line as it is.
+fn print_heading<W: Write>(line: &[u8], out: &mut W) -> io::Result<()>
+    ensures { OnOk result (Appends (W.contents out.old) (W.contents out.new) (headingLine line.now)) }
+{
+    out.write_all(line)?;
+    out.write_all(b"\n")
+}
+
+// Writes what is shown of a line.
+fn show_line<W: Write>(line: &[u8], out: &mut W) -> io::Result<()>
+    ensures { OnOk result (Appends (W.contents out.old) (W.contents out.new) (shown line.now)) }
 {
     let first = kind(line);
     if first == b'#' {
-        return print_heading(line);
+        return print_heading(line, out);
     }
     if first == b'c' {
-        return show_calls(line);
+        return show_calls(line, out);
     }
-    show(line)
+    show(line, out)
 }
 
 // Where the line that starts at `from` ends: at its newline, or with the text.
@@ -158,13 +146,16 @@ fn line_end(text: &[u8], from: usize) -> usize
     i
 }
 
-fn main() {
-    let mut text = [0u8; INPUT];
-    let got = io::read_full(STDIN_FILENO, &mut text);
+fn main(rt: HostRuntime) -> io::Result<()> {
+    let mut input = Vec::new(rt.alloc());
+    rt.stdin().read_to_end(&mut input)?;
+    let text = input.as_slice();
+    let mut out = rt.stdout();
     let mut at: usize = 0;
-    while at < got {
-        let end = line_end(&text[..got], at);
-        show_line(&text[at..end]);
+    while at < text.len() {
+        let end = line_end(text, at);
+        show_line(&text[at..end], &mut out)?;
         at = end + 1;
     }
+    Ok(())
 }
