@@ -11,14 +11,8 @@ pub call_at-r-requires : goal.call_at-r-requires
 call_at-r-requires c = search (rules, ages-one)
 
 pub loop-i-preserved : goal.loop-i-preserved
-loop-i-preserved c = 
-    let written = c.before.before in
-    let called = written.before.before.before in
-    let turn = called.before.before.before in
-    let loop = turn.before in
-    let start = loop.before.before.before.before.before in
-    going_next _ _ _ _ _ _ _ _ _ _ _ loop.loop.invariant _ _ _ turn.loop-test.true start.requires.1 called.call_at.ensures
-    written.before.before.table.given written.room.given
+loop-i-preserved c =
+    going_next _ _ _ _ _ _ _ _ _ _ _ c.loop-i.invariant _ _ _ c.loop-i-test.true c.requires.1 c.call_at-r.ensures c.call_at-r.auto.table c.call_at-r.auto.room
 
 pub returns : goal.returns
-returns c = going_end _ _ _ _ _ _ _ _ _ _ _ c.before.loop.invariant c.loop-test.false
+returns c = going_end _ _ _ _ _ _ _ _ _ _ _ c.loop-i.invariant c.loop-i-test.false

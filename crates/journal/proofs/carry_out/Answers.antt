@@ -5,9 +5,7 @@ use borrow.Author.Rules.{rules}
 use Rattle.journal.proofs.carry_out.Goals as goal
 
 pub returns-then-opened-ne0 : goal.returns-then-opened-ne0
-returns-then-opened-ne0 c = 
-    let o = c.before.before in
-    carry-unopened _ _ _ _ _ _ _ o.open.ensures c.if1.true
+returns-then-opened-ne0 c = carry-unopened _ _ _ _ _ _ _ c.open-opened.ensures c.if-opened-ne0.true
 
 pub returns-then-ages_off : goal.returns-then-ages_off
 returns-then-ages_off c = search (rules, carry-refused)
