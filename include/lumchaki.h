@@ -14,7 +14,7 @@
  * fresh memory first. What is lent for writing may not overlap anything else that is lent to the
  * call, and nobody else writes to what is lent until the call returns.
  *
- * Link with target/staticlib/liblumchaki.a. A transfer, lift, tip or run needs less than 192 KiB of
+ * Link with crates/lumchaki/out/liblumchaki.a. A transfer, lift, tip or run needs less than 192 KiB of
  * stack. */
 #ifndef LUMCHAKI_H
 #define LUMCHAKI_H

@@ -7,7 +7,7 @@ use std::thread;
 
 /// The program that `LUMCHAKI_LIST` names, or the one that the repository builds.
 fn program() -> PathBuf {
-    let built = || Path::new(env!("CARGO_MANIFEST_DIR")).join("../../target/bin/list");
+    let built = || Path::new(env!("CARGO_MANIFEST_DIR")).join("../../crates/list/out/list");
     std::env::var_os("LUMCHAKI_LIST").map_or_else(built, PathBuf::from)
 }
 

@@ -1,6 +1,6 @@
 //! Traces lots of flour through vessels: whose flour lies in which vessel, and since when.
 //!
-//! The book and the sheet are a proved library (`target/staticlib/liblumchaki.a`); this crate lends
+//! The book and the sheet are a proved library (`crates/lumchaki/out/liblumchaki.a`); this crate lends
 //! it slices and turns its numbers into a `Result`. A book is a [`Head`], handed along by the
 //! caller, and a table, lent to each call: four numbers for a piece. Nothing is allocated.
 //!

@@ -27,7 +27,7 @@ fn c_example_compiles_and_runs() {
         .arg("-I")
         .arg(root.join("include"))
         .arg(root.join("examples/embed.c"))
-        .arg(root.join("target/staticlib/liblumchaki.a"))
+        .arg(root.join("crates/lumchaki/out/liblumchaki.a"))
         .arg("-o")
         .arg(&program)
         .status()

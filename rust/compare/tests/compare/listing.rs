@@ -12,7 +12,7 @@ const LONGEST: usize = 49_688;
 
 /// The program that `LUMCHAKI_LIST` names, or the one that the build left, if it did.
 fn program() -> Option<PathBuf> {
-    let built = Path::new(env!("CARGO_MANIFEST_DIR")).join("../../target/bin/list");
+    let built = Path::new(env!("CARGO_MANIFEST_DIR")).join("../../crates/list/out/list");
     let named = std::env::var_os("LUMCHAKI_LIST").map(PathBuf::from);
     named.or_else(|| built.exists().then_some(built))
 }
