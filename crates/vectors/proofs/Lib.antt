@@ -1,1 +1,2 @@
 pub mod VectorLaws
+pub mod Output

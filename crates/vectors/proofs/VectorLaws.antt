@@ -13,7 +13,7 @@ use Rattle.fields.specs.Movements.{givenSize}
 use Rattle.writing.specs.Writing.{written}
 use Rattle.listing.specs.Listing.{sheetListing}
 use Rattle.text.specs.Numbers.{numbersIn}
-use Rattle.vectors.specs.Vectors.{vessels, names, numbersRoom, tableRoom, sheetRoom, vectorRule, vectorMovements, VectorWritten, vectorListing, answersRoom, reportRoom, heading, callsMark, shown, newline, line_of}
+use Rattle.vectors.specs.Vectors.{vessels, names, numbersRoom, tableRoom, sheetRoom, VectorWritten, vectorListing, headingLine, callsListing, heading, callsMark, shown, newline, line_of}
 use Rattle.text.proofs.NumberLaws.{sets_behind, first-put}
 
 -- the rule and the numbers behind it, of those read into so much memory
@@ -37,32 +37,38 @@ one_less : (count : ℕ) → count - min 1 count ≡ count - 1
 one_less zero = refl
 one_less (suc k) = rw (suc-min-suc, zero-min)
 
-module _ (text numbers : List ℕ) (count from : ℕ) (ec : count ≡ min (length (numbersIn text)) (1 + numbersRoom)) (ef : from ≡ min 1 count)
-    (en : numbers ≡ sets (replicate (1 + numbersRoom) 0) 0 (numbersIn text)) where
-  rule-is : get_or numbers 0 0 ≡ vectorRule text
-  rule-is = rw en (rule-read numbersRoom (numbersIn text))
+-- the numbers that were read into so much memory and one more: the first, and those behind it
+module _ (room : ℕ) (text numbers : List ℕ) (count from : ℕ) (ec : count ≡ min (length (numbersIn text)) (suc room)) (ef : from ≡ min 1 count)
+    (en : numbers ≡ sets (replicate (suc room) 0) 0 (numbersIn text)) where
+  pub rule-is : get_or numbers 0 0 ≡ get_or (take (suc room) (numbersIn text)) 0 0
+  rule-is = rw en (rule-read room (numbersIn text))
 
-  movements-are : take (count - from) (drop from numbers) ≡ vectorMovements text
-  movements-are = rw (ef, ec, en) (rest_read numbersRoom (numbersIn text))
+  pub rest-is : take (count - from) (drop from numbers) ≡ drop 1 (take (suc room) (numbersIn text))
+  rest-is = rw (ef, ec, en) (rest_read room (numbersIn text))
 
-  count-is : count - from ≡ length (vectorMovements text)
+  count-is : count - from ≡ length (drop 1 (take (suc room) (numbersIn text)))
   count-is =
-      let long : length (vectorMovements text) ≡ count - 1 = simp (length-drop, length-take, min_comm, ec) in
+      let long : length (drop 1 (take (suc room) (numbersIn text))) ≡ count - 1 = simp (length-drop, length-take, min_comm, ec) in
       rw (ef, long) (one_less count)
 
-  -- what is written of the numbers that were read
-  pub vector-written : (before after : List ℕ) → after ≡ written (get_or numbers 0 0) vessels names (take (count - from) (drop from numbers)) before
-      → VectorWritten text before (sheetSize vessels ((count - from) / givenSize)) after
-  vector-written before after ea = record {
-    size_is = ap (λ (k : ℕ). sheetSize vessels (k / givenSize)) count-is;
-    room = omega (arith, ec, min-le_right (length (numbersIn text)) (1 + numbersRoom));
-    after_is = ea ∙ rw (rule-is, movements-are);
-  }
+  fits : count ≤ suc room
+  fits = rw ec (min-le_right (length (numbersIn text)) (suc room))
+
+-- what is written of the numbers that were read
+pub vector-written : (text numbers : List ℕ) (count from : ℕ) → count ≡ min (length (numbersIn text)) (1 + numbersRoom) → from ≡ min 1 count
+    → numbers ≡ sets (replicate (1 + numbersRoom) 0) 0 (numbersIn text) → (before after : List ℕ)
+    → after ≡ written (get_or numbers 0 0) vessels names (take (count - from) (drop from numbers)) before
+    → VectorWritten text before (sheetSize vessels ((count - from) / givenSize)) after
+vector-written text numbers count from ec ef en before after ea = record {
+  size_is = ap (λ (k : ℕ). sheetSize vessels (k / givenSize)) (count-is numbersRoom text numbers count from ec ef en);
+  room = omega (arith, fits numbersRoom text numbers count from ec ef en);
+  after_is = ea ∙ rw (rule-is numbersRoom text numbers count from ec ef en, rest-is numbersRoom text numbers count from ec ef en);
+}
 
 -- what is listed of the sheet that was written
-pub vector-listed : (text sheet : List ℕ) (size n : ℕ) → VectorWritten text (replicate sheetRoom 0) size sheet
-    → n ≡ length (sheetListing (take (size - 0) sheet) (replicate tableRoom 0)) → n ≡ length (vectorListing text)
-vector-listed text sheet size n w e = e ∙ rw (sub-zero, w.after_is, w.size_is)
+pub vector-listed : (text sheet : List ℕ) (size : ℕ) → VectorWritten text (replicate sheetRoom 0) size sheet
+    → sheetListing (take (size - 0) sheet) (replicate tableRoom 0) ≡ vectorListing text
+vector-listed text sheet size w = rw (sub-zero, w.after_is, w.size_is)
 
 -- the first byte of a line
 pub first-none : (line : List ℕ) → length line ≡ 0 → heading ≡ get_or line 0 heading
@@ -74,19 +80,19 @@ first_some [] ne = absurd (ne refl)
 first_some (b ∷ bs) ne = refl
 
 -- what is shown of a line, by its first byte
-module _ (line : List ℕ) (first : ℕ) (e : first ≡ get_or line 0 heading) (n : ℕ) where
-  pub shown-heading : first ≡ heading → n ≡ length line → n ≡ shown line
+module _ (line : List ℕ) (first : ℕ) (e : first ≡ get_or line 0 heading) where
+  pub shown-heading : first ≡ heading → headingLine line ≡ shown line
   unfolding shown
-  shown-heading h en = en ∙ rw (← e, eq-eqb _ _ h)
+  shown-heading h = rw (← e, eq-eqb _ _ h)
 
   module _ (other : first ≡ heading → ⊥) where
-    pub shown-calls : first ≡ callsMark → n ≡ answersRoom + reportRoom → n ≡ shown line
+    pub shown-calls : first ≡ callsMark → callsListing line ≡ shown line
     unfolding shown
-    shown-calls h en = en ∙ rw (← e, ne_eqb _ _ other, eq-eqb _ _ h)
+    shown-calls h = rw (← e, ne_eqb _ _ other, eq-eqb _ _ h)
 
-    pub shown-sheet : (first ≡ callsMark → ⊥) → n ≡ length (vectorListing line) → n ≡ shown line
+    pub shown-sheet : (first ≡ callsMark → ⊥) → vectorListing line ≡ shown line
     unfolding shown
-    shown-sheet h en = en ∙ rw (← e, ne_eqb _ _ other, ne_eqb _ _ h)
+    shown-sheet h = rw (← e, ne_eqb _ _ other, ne_eqb _ _ h)
 
 -- Where the search for a line's end stands: what is left of the line from here ends where the line does.
 pub record InLine (text : List ℕ) (from i : ℕ) : Type 0 where

@@ -1,7 +1,10 @@
 -- What is shown of a line of vectors. Its numbers are a rule, and movements that are written as a sheet of three vessels, run on a table of
 -- six places, and listed; or a rule, and calls that are carried out.
 -- Definitions only. Assumes nothing.
-use Rattle.std.specs.Prelude.{cond, List, [], ◌∷◌, ◌≡◌, ℕ, ◌+◌, ◌*◌, ◌≤◌, eqb, length, get_or, take, drop, replicate}
+use Rattle.std.specs.Prelude.{cond, List, [], ◌∷◌, ◌++◌, ◌≡◌, ℕ, ◌+◌, ◌*◌, ◌≤◌, eqb, length, get_or, take, drop, replicate, decimal}
+use Rattle.refusal.specs.Numbers.{ifZero}
+use Rattle.book.specs.Head.{opening}
+use Rattle.journal.specs.Carried.{callSize, countCalls, carried, carryNumber}
 use Rattle.fields.specs.Layout.{sheetSize}
 use Rattle.fields.specs.Movements.{givenSize}
 use Rattle.writing.specs.Writing.{countGiven, written}
@@ -79,23 +82,25 @@ reportRoom = vessels * vessels
 abbrev pub unwritten : ℕ
 unwritten = 99
 
+abbrev pub callsRoom : ℕ
+callsRoom = callSize * answersRoom
+
 -- the numbers of a list of calls, as many as there is room for: the rule, then those of its calls
 abbrev pub callNumbers : List ℕ → List ℕ
-callNumbers text = take (1 + callSize * answersRoom) (numbersIn text)
+callNumbers text = take (1 + callsRoom) (numbersIn text)
 
 -- numbers on a line, each with a space behind it
-pub numbersText : List ℕ → List ℕ
+unfoldable pub numbersText : List ℕ → List ℕ
 numbersText [] = []
 numbersText (n ∷ ns) = (decimal n ++ (space ∷ [])) ++ numbersText ns
 
 abbrev pub numbersLine : List ℕ → List ℕ
 numbersLine ns = numbersText ns ++ (newline ∷ [])
 
--- What is shown of a list of calls: the number of each, and the room after. A list that is refused leaves both as they were.
-abbrev pub callsListing : List ℕ → List ℕ
-callsListing text =
-    let rule = get_or (callNumbers text) 0 0 in
-    let calls = drop 1 (callNumbers text) in
+-- What is shown of calls that are carried out under a rule: the number of each, and the room after. A list that is refused leaves both as
+-- they were.
+abbrev pub carriedListing : ℕ → List ℕ → List ℕ
+carriedListing rule calls =
     let answers = replicate answersRoom unwritten in
     let room = replicate reportRoom unwritten in
     let count = countCalls calls answers in
@@ -103,6 +108,9 @@ callsListing text =
     ifZero (carryNumber rule vessels calls answers)
     (numbersLine (k.numbers ++ drop count answers) ++ numbersLine k.room)
     (numbersLine answers ++ numbersLine room)
+
+abbrev pub callsListing : List ℕ → List ℕ
+callsListing text = carriedListing (get_or (callNumbers text) 0 0) (drop 1 (callNumbers text))
 
 -- The first byte of a line tells what it is: `#` a heading, `c` a list of calls.
 abbrev pub heading : ℕ

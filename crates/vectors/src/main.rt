@@ -62,8 +62,8 @@ fn show<W: Write>(text: &[u8], out: &mut W) -> io::Result<()>
     let mut table = [0u32; TABLE];
     let mut listed = [0u8; listing::ROOM];
     let size = write_vector(text, &mut sheet);
-    let n = listing::list_sheet(&sheet[0..size], &mut table, &mut listed);
-    out.write_all(&listed[0..n])
+    let n = listing::list_sheet(&sheet[..size], &mut table, &mut listed);
+    out.write_all(&listed[..n])
 }
 
 // Writes numbers on a line, each with a space behind it.
