@@ -1,83 +1,79 @@
 -- After a transfer on a book known to add up, the book is known to add up again, and the table is as long as before: so a run of many
 -- transfers makes checks 1 and 4 once.
 -- Assumes nothing.
-use mathlib.Core.Path.{◌≡◌, refl, sym, ◌∙◌}
-use mathlib.Core.List.{List}
-use Prim.Native.Nat.{ℕ, zero, suc}
-use native.Mathlib.Omega.{arith}
-use lib.ListN.{length}
+use Rattle.std.proofs.Common.{◌≡◌, refl, sym, ◌∙◌, List, ℕ, zero, suc, arith, length}
 use Rattle.table.specs.Pieces.{done}
 use Rattle.table.specs.Table.{places_of, flat}
 use Rattle.table.proofs.Pieces.{all_map}
 use Rattle.refusal.specs.Numbers.{first, ifZero}
 use Rattle.book.specs.declared.Head.{Head}
 use Rattle.book.specs.declared.Transfer.{Transfer}
-use Rattle.book.specs.Head.{Book, Sized, head_of, bookOf, emptyHead, opened, openChecks}
-use Rattle.book.specs.Motion.{ofBook}
-use Rattle.book.specs.Transfer.{motionOf}
+use Rattle.book.specs.Head.{Book, Sized, head_of, book_of, empty_head, opened, open_checks}
+use Rattle.book.specs.Motion.{of_book}
+use Rattle.book.specs.Transfer.{motion_of}
 use Rattle.book.specs.Calls.{post, meaning}
-use Rattle.book.specs.Memory.{outcome, number_of, callOn}
-use Rattle.book.proofs.BalanceLaws.{balances-match, balance-held, fresh-head}
+use Rattle.book.specs.Memory.{outcome, number_of, call_on}
+use Rattle.book.proofs.BalanceLaws.{balances_match, balance_held, fresh_head}
 use Rattle.book.proofs.Checks.{fit}
-use Rattle.book.proofs.Sound.{number, SoundBook, SizedBook, motion-light, post-number, keeps}
+use Rattle.book.proofs.Sound.{number, SoundBook, SizedBook, motion_light, post_number, keeps}
 use Rattle.book.proofs.HeadLaws.{openable}
 use Rattle.book.proofs.Memory.{On, adds, number_same, in_step}
 use Rattle.book.proofs.Known.{Known, known_up}
 
 -- the head of a sound book whose numbers are of 32 bits has such numbers
-sized-head : (places : ℕ) (b : Book) → SoundBook places b → SizedBook b → Sized (head_of b)
-sized-head places b o z =
+sized_head : (places : ℕ) (b : Book) → SoundBook places b → SizedBook b → Sized (head_of b)
+sized_head places b o z =
     let holders = all_map (λ p f. f.holder_in) o.sound in
-    let matches = balances-match b.vessels (head_of b).balances (head_of b).scale b.pieces holders refl refl in
-    record { light = λ v. rw (balance-held (head_of b) b.vessels b.pieces o.vessels-fit holders matches v) (z.light v); tally = z.tally }
+    let matches = balances_match b.vessels (head_of b).balances (head_of b).scale b.pieces holders refl refl in
+    record { light = λ v. rw (balance_held (head_of b) b.vessels b.pieces o.vessels_fit holders matches v) (z.light v); tally = z.tally }
 
 -- a head and a table that hold such a book are known
-on-known : (places : ℕ) (h : Head) (t : List ℕ) (b : Book) → On places h t b → SoundBook places b → SizedBook b → Known h t
-on-known places h t b on o z = known_up h t (rw on.head-is (sized-head places b o z)) (adds places h t b on o)
+on_known : (places : ℕ) (h : Head) (t : List ℕ) (b : Book) → On places h t b → SoundBook places b → SizedBook b → Known h t
+on_known places h t b on o z = known_up h t (rw on.head_is (sized_head places b o z)) (adds places h t b on o)
 
 -- a transfer leaves numbers of 32 bits
-post-sized : (places : ℕ) (b : Book) (x : Transfer) → SizedBook b → number places b (post x) ≡ 0 → SizedBook ((meaning (post x)).next b)
-post-sized places b x z e =
-    let f = fit (ofBook b) x (post-number places b x e).0 in
-    record { light = motion-light b b.rule (motionOf x) z.light f.room; tally = let u = f.tally in omega (arith, z.tally) }
+post_sized : (places : ℕ) (b : Book) (x : Transfer) → SizedBook b → number places b (post x) ≡ 0 → SizedBook ((meaning (post x)).next b)
+post_sized places b x z e =
+    let f = fit (of_book b) x (post_number places b x e).0 in
+    record { light = motion_light b b.rule (motion_of x) z.light f.room; tally = let u = f.tally in omega (arith, z.tally) }
 
 module _ (h : Head) (t : List ℕ) (k : Known h t) (x : Transfer) where
-  pub known-after : Known (callOn h t (post x)).head (callOn h t (post x)).table
-  known-after =
-      let s = in_step (places_of t) h t (bookOf h t) k.on k.sound (post x) in
-      on-known (places_of t) _ _ _ s.holds s.sound (go (number (places_of t) (bookOf h t) (post x)) refl)
+  pub known_after : Known (call_on h t (post x)).head (call_on h t (post x)).table
+  known_after =
+      let s = in_step (places_of t) h t (book_of h t) k.on k.sound (post x) in
+      on_known (places_of t) _ _ _ s.holds s.sound (go (number (places_of t) (book_of h t) (post x)) refl)
     where
-      go : (n : ℕ) → number (places_of t) (bookOf h t) (post x) ≡ n → SizedBook (ifZero n ((meaning (post x)).next (bookOf h t)) (bookOf h t))
-      go zero e = post-sized (places_of t) (bookOf h t) x k.light e
+      go : (n : ℕ) → number (places_of t) (book_of h t) (post x) ≡ n → SizedBook (ifZero n ((meaning (post x)).next (book_of h t)) (book_of h t))
+      go zero e = post_sized (places_of t) (book_of h t) x k.light e
       go (suc n) e = k.light
 
-  pub length-after : length (callOn h t (post x)).table ≡ length t
-  unfolding callOn
-  length-after = go (number_of h t (post x)) refl
+  pub length_after : length (call_on h t (post x)).table ≡ length t
+  unfolding call_on
+  length_after = go (number_of h t (post x)) refl
     where
       go : (n : ℕ) → number_of h t (post x) ≡ n → length (outcome h t (meaning (post x)) n).table ≡ length t
       go zero e =
-          let e' = sym (number_same (places_of t) h t (bookOf h t) k.on k.sound (post x)) ∙ e in
-          (keeps (places_of t) (bookOf h t) (post x) k.sound e').long t k.on.lies
+          let e' = sym (number_same (places_of t) h t (book_of h t) k.on k.sound (post x)) ∙ e in
+          (keeps (places_of t) (book_of h t) (post x) k.sound e').long t k.on.lies
       go (suc n) e = refl
 
 -- a fresh book
-pub fresh : (places rule size : ℕ) → first (openChecks rule size) ≡ 0 → SoundBook places (opened rule size)
+pub fresh : (places rule size : ℕ) → first (open_checks rule size) ≡ 0 → SoundBook places (opened rule size)
 fresh places rule size e =
     let o = openable rule size e in
     record {
-      known = o.rule-known;
-      some-vessel = o.some-vessels;
-      vessels-fit = o.few-vessels;
+      known = o.rule_known;
+      some_vessel = o.some_vessels;
+      vessels_fit = o.few_vessels;
       fits = omega arith;
       counted = omega arith;
       sound = done;
     }
 
-pub fresh_on : (rule size : ℕ) (t : List ℕ) → On (places_of t) (emptyHead rule size) t (opened rule size)
+pub fresh_on : (rule size : ℕ) (t : List ℕ) → On (places_of t) (empty_head rule size) t (opened rule size)
 unfolding flat
-fresh_on rule size t = record { head-is = fresh-head rule size; lies = record { tail = t; table_is = refl; places_is = refl } }
+fresh_on rule size t = record { head_is = fresh_head rule size; lies = record { tail = t; table_is = refl; places_is = refl } }
 
-pub fresh-known : (rule size : ℕ) (t : List ℕ) → first (openChecks rule size) ≡ 0 → Known (emptyHead rule size) t
-fresh-known rule size t e =
-    on-known (places_of t) _ t _ (fresh_on rule size t) (fresh (places_of t) rule size e) (record { light = λ v. omega arith; tally = omega arith })
+pub fresh_known : (rule size : ℕ) (t : List ℕ) → first (open_checks rule size) ≡ 0 → Known (empty_head rule size) t
+fresh_known rule size t e =
+    on_known (places_of t) _ t _ (fresh_on rule size t) (fresh (places_of t) rule size e) (record { light = λ v. omega arith; tally = omega arith })

@@ -1,14 +1,12 @@
 -- Worked cases: calls on a fresh book of three vessels, what is looked at afterwards, and what is to be seen then. `Marked`, `Ages` and `Scale` have
 -- tables of them, over the definitions that the contracts cite.
 -- Assumes nothing.
-use mathlib.Core.List.{List, [], ◌∷◌, ◌++◌, map}
-use Prim.Native.Nat.{ℕ}
-use lib.ListN.{replicate}
+use Rattle.std.proofs.Common.{List, [], ◌∷◌, ◌++◌, map, ℕ, replicate}
 use Rattle.table.specs.Table.{pieces_of, flat}
 use Rattle.book.specs.declared.Transfer.{Transfer}
 use Rattle.book.specs.Head.{opening}
 use Rattle.book.specs.Calls.{Call, post}
-use Rattle.book.specs.Lists.{Journal, callsOn, evens}
+use Rattle.book.specs.Lists.{Journal, calls_on, evens}
 
 pub record Case : Type 0 where
   pub rule : ℕ
@@ -28,7 +26,7 @@ abbrev lent : List ℕ
 lent = replicate 32 9
 
 abbrev pub seen : Case → List ℕ
-seen c = c.look (callsOn (opening c.rule 3).head lent c.given)
+seen c = c.look (calls_on (opening c.rule 3).head lent c.given)
 
 -- a look at the pieces and the even count
 abbrev pub pieces : Journal → List ℕ

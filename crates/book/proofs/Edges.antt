@@ -2,26 +2,20 @@
 -- the last that passes and the first that does not. A definition that is altered together with code and proofs fails here.
 -- (Pieces above the places show alone only past the most places: `too_many`.)
 -- Assumes nothing.
-use mathlib.Core.Path.{◌≡◌, refl}
-use mathlib.Core.Bool.{Bool, true, false, ◌&&◌, cond}
-use mathlib.Core.List.{List, [], ◌∷◌, ◌++◌, map}
-use Prim.Native.Nat.{ℕ, zero, suc, ◌≤◌, ◌<◌, ◌-◌}
-use native.Mathlib.Omega.{arith}
-use lib.Dec.{leb, eqb}
-use lib.ListN.{length, replicate}
-use borrow.Author.Tests.{le-leb, lt-leb}
-use Rattle.table.specs.Table.{mostPlaces, pieces_of, places_of}
+use Rattle.std.proofs.Common.{◌≡◌, refl, Bool, true, false, ◌&&◌, cond, List, [], ◌∷◌, ◌++◌, map, ℕ, zero, suc, ◌≤◌, ◌<◌, ◌-◌, arith, leb, eqb, length, replicate, le-leb}
+use borrow.Author.Tests.{lt-leb}
+use Rattle.table.specs.Table.{most_places, pieces_of, places_of}
 use Rattle.refusal.specs.Numbers.{TOP, first}
 use Rattle.book.specs.declared.Head.{Head}
 use Rattle.book.specs.declared.Report.{Report}
 use Rattle.book.specs.declared.Report.TheVariants.{Held, Spread, Whole}
-use Rattle.book.specs.Head.{lastRule, mostVessels, theScale, tab, balancesOf, every, same, addsUp, emptyHead, openChecks, opens, opening}
+use Rattle.book.specs.Head.{last_rule, most_vessels, the_scale, tab, balances_of, every, same, adds_up, empty_head, open_checks, opens, opening}
 use Rattle.book.specs.Motion.{Standing}
-use Rattle.book.specs.Transfer.{transferOf, transferChecks}
-use Rattle.book.specs.Scale.{liftOf, tip_of, liftChecks, tipChecks}
-use Rattle.book.specs.Reports.{reportChecks}
+use Rattle.book.specs.Transfer.{transfer_of, transfer_checks}
+use Rattle.book.specs.Scale.{lift_of, tip_of, lift_checks, tip_checks}
+use Rattle.book.specs.Reports.{report_checks}
 use Rattle.book.specs.Calls.{post, lift, tip, ask}
-use Rattle.book.specs.Memory.{bookChecks, number_of}
+use Rattle.book.specs.Memory.{book_checks, number_of}
 use Rattle.book.specs.Lists.{tips}
 
 -- a test, and what it is to say
@@ -32,31 +26,31 @@ pub record Edge : Type 0 where
 -- "book off", 4, or 0, of a head with these numbers and balances and this weight on the scale, and a table
 abbrev loaded : ℕ → ℕ → ℕ → ℕ → ℕ → List ℕ → ℕ → List ℕ → ℕ
 loaded rule vessels pieces last accepted balances scale t =
-    first (bookChecks (record { rule = rule; vessels = vessels; pieces = pieces; last = last; accepted = accepted; balances = balances ++ replicate (mostVessels - length balances) 0; scale = scale }) t)
+    first (book_checks (record { rule = rule; vessels = vessels; pieces = pieces; last = last; accepted = accepted; balances = balances ++ replicate (most_vessels - length balances) 0; scale = scale }) t)
 
 abbrev book : ℕ → ℕ → ℕ → ℕ → ℕ → List ℕ → List ℕ → ℕ
 book rule vessels pieces last accepted balances t = loaded rule vessels pieces last accepted balances 0 t
 
 -- three vessels that hold 5 each, so much on the scale, the last minute 7 and so many accepted
 abbrev stand : ℕ → ℕ → Standing
-stand scale accepted = record { vessels = 3; balance = λ v. cond (eqb v theScale) scale 5; last = 7; accepted = accepted }
+stand scale accepted = record { vessels = 3; balance = λ v. cond (eqb v the_scale) scale 5; last = 7; accepted = accepted }
 
 -- the number of a transfer where nothing is on the scale, and of one, a lift and a tip where so much is
 abbrev move : ℕ → ℕ → ℕ → ℕ → ℕ → ℕ → ℕ
-move accepted s d t q age = first (transferChecks (stand 0 accepted) (transferOf s d t q age))
+move accepted s d t q age = first (transfer_checks (stand 0 accepted) (transfer_of s d t q age))
 
 abbrev beside : ℕ → ℕ → ℕ → ℕ → ℕ → ℕ → ℕ
-beside scale s d t q age = first (transferChecks (stand scale 0) (transferOf s d t q age))
+beside scale s d t q age = first (transfer_checks (stand scale 0) (transfer_of s d t q age))
 
 abbrev raise : ℕ → ℕ → ℕ → ℕ → ℕ → ℕ → ℕ
-raise scale accepted s t q age = first (liftChecks (stand scale accepted) (liftOf s t q age))
+raise scale accepted s t q age = first (lift_checks (stand scale accepted) (lift_of s t q age))
 
 abbrev lower : ℕ → ℕ → ℕ → ℕ
-lower scale d t = first (tipChecks (stand scale TOP) (tip_of d t))
+lower scale d t = first (tip_checks (stand scale TOP) (tip_of d t))
 
 -- the number of a report on the fresh book of three vessels, with so much room
 abbrev report : Report → ℕ → ℕ
-report q room = number_of (emptyHead 0 3) (9 ∷ 9 ∷ 9 ∷ 9 ∷ []) (ask q (replicate room 9))
+report q room = number_of (empty_head 0 3) (9 ∷ 9 ∷ 9 ∷ 9 ∷ []) (ask q (replicate room 9))
 
 abbrev ◌gives◌ : ℕ → ℕ → Edge
 n gives m = record { found = n; wanted = m }
@@ -191,32 +185,32 @@ edges =
     ∷ report Whole 8 gives 13
     ∷ report Whole 9 gives 0
     -- how many tips a list has
-    ∷ tips (post (transferOf 0 1 0 1 0) ∷ lift (liftOf 0 0 1 0) ∷ tip (tip_of 1 0) ∷ ask Whole [] ∷ tip (tip_of 1 0) ∷ []) gives 2
+    ∷ tips (post (transfer_of 0 1 0 1 0) ∷ lift (lift_of 0 0 1 0) ∷ tip (tip_of 1 0) ∷ ask Whole [] ∷ tip (tip_of 1 0) ∷ []) gives 2
     ∷ []
 
-pub at-the-edge : map (λ e. e.found) edges ≡ map (λ e. e.wanted) edges
-unfolding edges opening bookChecks addsUp every same balancesOf tab places_of pieces_of transferChecks liftChecks tipChecks reportChecks number_of
-at-the-edge = refl
+pub at_the_edge : map (λ e. e.found) edges ≡ map (λ e. e.wanted) edges
+unfolding edges opening book_checks adds_up every same balances_of tab places_of pieces_of transfer_checks lift_checks tip_checks report_checks number_of
+at_the_edge = refl
 
 -- However far off the vessel of a held report or the origin of a spread one is, it is 5, and before all else.
-pub no-vessel : (size v from to room : ℕ) → size ≤ v → (first (reportChecks size room (Held v)) ≡ 5) × (first (reportChecks size room (Spread v from to)) ≡ 5)
-unfolding reportChecks
-no-vessel size v from to room h = (rw (le-leb size v h), rw (le-leb size v h))
+pub no_vessel : (size v from to room : ℕ) → size ≤ v → (first (report_checks size room (Held v)) ≡ 5) × (first (report_checks size room (Spread v from to)) ≡ 5)
+unfolding report_checks
+no_vessel size v from to room h = (rw (le-leb size v h), rw (le-leb size v h))
 
 -- A refused opening gives a head of zeros.
 pub zeros : (rule size : ℕ) → ((opening rule size).number ≡ 0 → ⊥)
     → (opening rule size).head ≡ record { rule = 0; vessels = 0; pieces = 0; last = 0; accepted = 0; balances = replicate 64 0; scale = 0 }
 unfolding opening
-zeros rule size = go (first (openChecks rule size))
+zeros rule size = go (first (open_checks rule size))
   where
     go : (n : ℕ) → ((opens rule size n).number ≡ 0 → ⊥) → (opens rule size n).head ≡ record { rule = 0; vessels = 0; pieces = 0; last = 0; accepted = 0; balances = replicate 64 0; scale = 0 }
     go zero nz = absurd (nz refl)
     go (suc n) nz = refl
 
 -- More pieces than a table ever counts places: no computed case reaches it.
-pub too_many : (h : Head) (t : List ℕ) → mostPlaces < h.pieces → addsUp h t ≡ false
-unfolding addsUp places_of
-too_many h t e = rw (lt-leb h.pieces (places_of t) (omega arith)) (go (leb h.rule lastRule) (leb 1 h.vessels) (leb h.vessels mostVessels))
+pub too_many : (h : Head) (t : List ℕ) → most_places < h.pieces → adds_up h t ≡ false
+unfolding adds_up places_of
+too_many h t e = rw (lt-leb h.pieces (places_of t) (omega arith)) (go (leb h.rule last_rule) (leb 1 h.vessels) (leb h.vessels most_vessels))
   where
     go : (a b c : Bool) → (a && (b && (c && false))) ≡ false
     go true true true = refl

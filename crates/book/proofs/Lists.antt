@@ -1,19 +1,15 @@
 -- Demand 3: one claim about a whole list of calls, on the head of an accepted opening and a table of any length and content.
 -- By induction over the list, with the book that head and table hold and the weigh book beside it.
 -- Assumes nothing.
-use mathlib.Core.Path.{◌≡◌, refl, sym, ap, ◌∙◌}
-use mathlib.Core.List.{List, [], ◌∷◌}
-use Prim.Native.Nat.{ℕ, zero, suc, ◌+◌, ◌≤◌}
-use native.Mathlib.Omega.{arith}
-use lib.ListN.{length}
+use Rattle.std.proofs.Common.{◌≡◌, refl, sym, ap, ◌∙◌, List, [], ◌∷◌, ℕ, zero, suc, ◌+◌, ◌≤◌, arith, length}
 use Rattle.table.specs.Table.{places_of}
 use Rattle.refusal.specs.Numbers.{first}
 use Rattle.book.specs.declared.Head.{Head}
-use Rattle.book.specs.Head.{Book, opened, openChecks, opens, opening, emptyHead}
+use Rattle.book.specs.Head.{Book, opened, open_checks, opens, opening, empty_head}
 use Rattle.book.specs.Calls.{Call, meaning}
-use Rattle.book.specs.Memory.{Outcome, callOn}
+use Rattle.book.specs.Memory.{Outcome, call_on}
 use Rattle.book.specs.WeighBook.{WeighBook, weighing, blank, feed, forecast}
-use Rattle.book.specs.Lists.{Journal, callsOn, answered, follow, transfers, tips, evens, numbers, Demand3}
+use Rattle.book.specs.Lists.{Journal, calls_on, answered, follow, transfers, tips, evens, numbers, Demand3}
 use Rattle.book.proofs.Sound.{number, SoundBook, keeps}
 use Rattle.book.proofs.Beside.{Beside, walks}
 use Rattle.book.proofs.Memory.{On, InStep, back, adds, in_step}
@@ -24,7 +20,7 @@ record Follows (places : ℕ) (b : Book) (w : WeighBook) (cs : List Call) (r : J
   final : Book
   on : On places r.head r.table final
   sound : SoundBook places final
-  in-turn : final ≡ follow b (answered r.log)
+  in_turn : final ≡ follow b (answered r.log)
   beside : Beside final (feed w (answered r.log))
   count : length final.pieces + evens r.log + b.accepted ≡ length b.pieces + final.accepted
   tally : final.accepted ≡ transfers (answered r.log) + b.accepted
@@ -32,17 +28,17 @@ record Follows (places : ℕ) (b : Book) (w : WeighBook) (cs : List Call) (r : J
 
 module _ (places : ℕ) where
   abbrev Holds : List Call → Type 0
-  Holds cs = (h : Head) (t : List ℕ) (b : Book) (w : WeighBook) → On places h t b → SoundBook places b → Beside b w → Follows places b w cs (callsOn h t cs)
+  Holds cs = (h : Head) (t : List ℕ) (b : Book) (w : WeighBook) → On places h t b → SoundBook places b → Beside b w → Follows places b w cs (calls_on h t cs)
 
   follows : (cs : List Call) → Holds cs
-  unfolding callsOn follow feed forecast
-  follows [] h t b w on o r = record { final = b; on = on; sound = o; in-turn = refl; beside = r; count = omega arith; tally = omega arith; forecasts = λ h k. refl }
+  unfolding calls_on follow feed forecast
+  follows [] h t b w on o r = record { final = b; on = on; sound = o; in_turn = refl; beside = r; count = omega arith; tally = omega arith; forecasts = λ h k. refl }
   follows (c ∷ cs) h t b w on o r = go (number places b c) refl (in_step places h t b on o c) (follows cs)
     where
       u : Outcome
-      u = callOn h t c
+      u = call_on h t c
 
-      go : (n : ℕ) → number places b c ≡ n → InStep places h t b on o c n → Holds cs → Follows places b w (c ∷ cs) (callsOn h t (c ∷ cs))
+      go : (n : ℕ) → number places b c ≡ n → InStep places h t b on o c n → Holds cs → Follows places b w (c ∷ cs) (calls_on h t (c ∷ cs))
       go zero e s next =
           let k = keeps places b c o e in
           let a = (walks places b w c r).accepts e in
@@ -51,7 +47,7 @@ module _ (places : ℕ) where
             final = i.final;
             on = i.on;
             sound = i.sound;
-            in-turn = rw s.number_is i.in-turn;
+            in_turn = rw s.number_is i.in_turn;
             beside = rw (s.number_is, feed, a.weighs, feed) i.beside;
             count = rw s.even_is (omega (arith, i.count, k.count, k.tally));
             tally = rw s.number_is (omega (arith, i.tally, k.tally));
@@ -63,44 +59,44 @@ module _ (places : ℕ) where
             final = i.final;
             on = i.on;
             sound = i.sound;
-            in-turn = rw s.number_is i.in-turn;
+            in_turn = rw s.number_is i.in_turn;
             beside = rw s.number_is i.beside;
             count = rw s.even_is (omega (arith, i.count));
             tally = rw s.number_is i.tally;
             forecasts = λ h q.
                 let f = (walks places b w c r).foretells (omega arith) (λ u. q (omega arith)) in
-                rw (s.number_is, f.stays n e, ← e, f.same (numbers (callsOn u.head u.table cs).log), i.forecasts (omega arith) (λ u. q (omega arith)));
+                rw (s.number_is, f.stays n e, ← e, f.same (numbers (calls_on u.head u.table cs).log), i.forecasts (omega arith) (λ u. q (omega arith)));
           }
 
 -- the theorem, from the fresh head
-pub opened-demand : (rule size : ℕ) → first (openChecks rule size) ≡ 0 → (t : List ℕ) (cs : List Call) → Demand3 rule size t cs (callsOn (emptyHead rule size) t cs)
+pub opened_demand : (rule size : ℕ) → first (open_checks rule size) ≡ 0 → (t : List ℕ) (cs : List Call) → Demand3 rule size t cs (calls_on (empty_head rule size) t cs)
 unfolding places_of
-opened-demand rule size z t cs =
+opened_demand rule size z t cs =
     let b = opened rule size in
-    let f = follows (places_of t) cs (emptyHead rule size) t b (blank size) (fresh_on rule size t) (fresh (places_of t) rule size z)
-    (record { same_size = refl; weights = λ v. refl; births = λ o t. refl; same-last = refl; same_count = refl }) in
+    let f = follows (places_of t) cs (empty_head rule size) t b (blank size) (fresh_on rule size t) (fresh (places_of t) rule size z)
+    (record { same_size = refl; weights = λ v. refl; births = λ o t. refl; same_last = refl; same_count = refl }) in
     let k = back (places_of t) _ _ _ f.on f.sound in
     record {
-      in-turn = k ∙ f.in-turn;
-      vessel-sums = λ v. rw (ap (λ b. b.pieces) k) (f.beside.weights v);
-      birth-sums = λ o m. rw (ap (λ b. b.pieces) k) (f.beside.births o m);
-      even-count = rw f.on.head-is (omega (arith, f.count));
-      accepted-count = rw f.on.head-is (omega (arith, f.tally));
+      in_turn = k ∙ f.in_turn;
+      vessel_sums = λ v. rw (ap (λ b. b.pieces) k) (f.beside.weights v);
+      birth_sums = λ o m. rw (ap (λ b. b.pieces) k) (f.beside.births o m);
+      even_count = rw f.on.head_is (omega (arith, f.count));
+      accepted_count = rw f.on.head_is (omega (arith, f.tally));
       forecasts = λ h q. f.forecasts (omega arith) (λ u. let k : 4 ≤ length t = q u in omega arith);
-      adds-up = adds (places_of t) _ _ _ f.on f.sound;
+      adds_up_lem = adds (places_of t) _ _ _ f.on f.sound;
     }
 
 -- DEMAND 3: for every opening that is accepted, every table and every list of calls.
-pub demand-3 : (rule size : ℕ) → (opening rule size).number ≡ 0 → (t : List ℕ) (cs : List Call) → Demand3 rule size t cs (callsOn (opening rule size).head t cs)
+pub demand_3 : (rule size : ℕ) → (opening rule size).number ≡ 0 → (t : List ℕ) (cs : List Call) → Demand3 rule size t cs (calls_on (opening rule size).head t cs)
 unfolding opening
-demand-3 rule size e t cs = go (first (openChecks rule size)) refl e
+demand_3 rule size e t cs = go (first (open_checks rule size)) refl e
   where
-    go : (n : ℕ) → first (openChecks rule size) ≡ n → (opens rule size n).number ≡ 0 → Demand3 rule size t cs (callsOn (opens rule size n).head t cs)
-    go zero z u = opened-demand rule size z t cs
+    go : (n : ℕ) → first (open_checks rule size) ≡ n → (opens rule size n).number ≡ 0 → Demand3 rule size t cs (calls_on (opens rule size n).head t cs)
+    go zero z u = opened_demand rule size z t cs
     go (suc n) z u = absurd (omega arith)
 
 -- "the same under all four rules": where there are places enough, two books of any rules give a list's transfers the same numbers.
-pub rules-alike : (one other size : ℕ) → (opening one size).number ≡ 0 → (opening other size).number ≡ 0 → (t u : List ℕ) (cs : List Call) → transfers cs ≤ places_of t → transfers cs ≤ places_of u
+pub rules_alike : (one other size : ℕ) → (opening one size).number ≡ 0 → (opening other size).number ≡ 0 → (t u : List ℕ) (cs : List Call) → transfers cs ≤ places_of t → transfers cs ≤ places_of u
     → (1 ≤ tips cs → (4 ≤ length t) × (4 ≤ length u))
-    → numbers (callsOn (opening one size).head t cs).log ≡ numbers (callsOn (opening other size).head u cs).log
-rules-alike one other size e f t u cs h k q = (demand-3 one size e t cs).forecasts h (λ y. (q y).0) ∙ sym ((demand-3 other size f u cs).forecasts k (λ y. (q y).1))
+    → numbers (calls_on (opening one size).head t cs).log ≡ numbers (calls_on (opening other size).head u cs).log
+rules_alike one other size e f t u cs h k q = (demand_3 one size e t cs).forecasts h (λ y. (q y).0) ∙ sym ((demand_3 other size f u cs).forecasts k (λ y. (q y).1))

@@ -1,24 +1,21 @@
 -- K1 to K10, the marked cases of document 01, with age 0: one table over the definitions that the contracts cite, and one theorem.
--- K8 speaks of every book and every rule: `even-law` is that law.
+-- K8 speaks of every book and every rule: `even_law` is that law.
 -- Assumes nothing.
-use mathlib.Core.Path.{◌≡◌, refl}
-use mathlib.Core.List.{List, [], ◌∷◌, ◌++◌, map}
-use Prim.Native.Nat.{ℕ}
-use lib.ListN.{take}
+use Rattle.std.proofs.Common.{◌≡◌, refl, List, [], ◌∷◌, ◌++◌, map, ℕ, take}
 use Rattle.table.specs.Pieces.{held}
 use Rattle.table.specs.Table.{pieces_of, flat, places_of}
 use Rattle.taking.specs.Selection.{precedes}
-use Rattle.taking.specs.Taking.{takeUpTo, taken}
+use Rattle.taking.specs.Taking.{take_up_to, taken}
 use Rattle.book.specs.declared.Transfer.{Transfer}
-use Rattle.book.specs.Head.{Book, tab, balancesOf, every, same, addsUp, opening}
+use Rattle.book.specs.Head.{Book, tab, balances_of, every, same, adds_up, opening}
 use Rattle.book.specs.Motion.{takes}
-use Rattle.book.specs.Transfer.{transferChecks, motionOf}
+use Rattle.book.specs.Transfer.{transfer_checks, motion_of}
 use Rattle.book.specs.Calls.{post, meaning}
-use Rattle.book.specs.Memory.{bookChecks, number_of, callOn}
+use Rattle.book.specs.Memory.{book_checks, number_of, call_on}
 use Rattle.book.specs.Former.{unaged}
-use Rattle.book.specs.WeighBook.{WeighBook, blank, weighNumber, feed}
-use Rattle.book.specs.Lists.{Journal, callsOn, answered, evens, numbers}
-use Rattle.book.proofs.Sound.{all-taken}
+use Rattle.book.specs.WeighBook.{WeighBook, blank, weigh_number, feed}
+use Rattle.book.specs.Lists.{Journal, calls_on, answered, evens, numbers}
+use Rattle.book.proofs.Sound.{all_taken}
 use Rattle.book.proofs.Cases.{Case, worked, seen, pieces}
 
 pub data Name : Type 0 where
@@ -40,17 +37,17 @@ pub record Named : Type 0 where
 
 -- What is looked at: the pieces and the even count, alone or with the numbers of the head; the births at some vessels and minutes; the
 -- balances of the head and the weights of the weigh book; the numbers answered; the even count.
-abbrev weighBook : Journal → WeighBook
-weighBook r = feed (blank 3) (answered r.log)
+abbrev weigh_book : Journal → WeighBook
+weigh_book r = feed (blank 3) (answered r.log)
 
 abbrev whole : Journal → List ℕ
 whole r = r.head.vessels ∷ r.head.rule ∷ r.head.accepted ∷ r.head.pieces ∷ pieces r
 
 abbrev births : Journal → List ℕ
-births r = (weighBook r).births 1 1 ∷ (weighBook r).births 2 3 ∷ (weighBook r).births 1 5 ∷ []
+births r = (weigh_book r).births 1 1 ∷ (weigh_book r).births 2 3 ∷ (weigh_book r).births 1 5 ∷ []
 
 abbrev balances : Journal → List ℕ
-balances r = take 3 r.head.balances ++ tab (weighBook r).weight 0 3
+balances r = take 3 r.head.balances ++ tab (weigh_book r).weight 0 3
 
 abbrev answers : Journal → List ℕ
 answers r = numbers r.log
@@ -92,10 +89,10 @@ marked =
     ∷ case K10 0 (unaged 1 1 0 0 ∷ []) answers (6 ∷ [])
     ∷ []
 
-pub marked-cases : map (λ c. seen c.is) marked ≡ map (λ c. c.is.wanted) marked
-unfolding marked callsOn callOn number_of bookChecks addsUp every same balancesOf tab places_of pieces_of flat opening transferChecks takes taken takeUpTo precedes feed weighNumber
-marked-cases = refl
+pub marked_cases : map (λ c. seen c.is) marked ≡ map (λ c. c.is.wanted) marked
+unfolding marked calls_on call_on number_of book_checks adds_up every same balances_of tab places_of pieces_of flat opening transfer_checks takes taken take_up_to precedes feed weigh_number
+marked_cases = refl
 
 -- K8: "q = balance of s, above 0, accepted: even under every rule", of every book.
-pub even-law : (b : Book) (x : Transfer) → x.weight ≡ held x.source b.pieces → (meaning (post x)).even b ≡ 1
-even-law b x e = rw (all-taken b b.rule (motionOf x) e)
+pub even_law : (b : Book) (x : Transfer) → x.weight ≡ held x.source b.pieces → (meaning (post x)).even b ≡ 1
+even_law b x e = rw (all_taken b b.rule (motion_of x) e)

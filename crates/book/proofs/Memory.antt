@@ -1,23 +1,16 @@
 -- Head and table against the book: a head and a table that hold a sound book add up, a call on them is the call on the book, and
 -- what it leaves holds the book that the call leaves.
 -- Assumes nothing.
-use mathlib.Core.Path.{◌≡◌, refl, sym, ◌∙◌}
-use mathlib.Core.Bool.{Bool, true, false, not}
-use mathlib.Core.List.{List}
-use Prim.Native.Nat.{ℕ, zero, suc, ◌≤◌}
-use native.Mathlib.Omega.{arith}
-use lib.Dec.{ltb, eqb}
-use lib.ListN.{length}
-use borrow.Author.Tests.{le-leb, le-ltb, ltb-true, ltb-false, eq-eqb, ne_eqb}
+use Rattle.std.proofs.Common.{◌≡◌, refl, sym, ◌∙◌, Bool, true, false, not, List, ℕ, zero, suc, ◌≤◌, arith, ltb, eqb, length, le-leb, le-ltb, ltb-true, ltb-false, eq-eqb, ne_eqb}
 use Rattle.table.specs.Pieces.{held}
 use Rattle.table.specs.Table.{places_of}
-use Rattle.table.proofs.Table.{pieces-flat}
+use Rattle.table.proofs.Table.{pieces_flat}
 use Rattle.refusal.specs.Numbers.{first, ifZero}
-use Rattle.refusal.proofs.Numbers.{not-zero, first-zero, passed, first-append}
+use Rattle.refusal.proofs.Numbers.{not_zero, first_zero, passed, first_append}
 use Rattle.book.specs.declared.Head.{Head}
-use Rattle.book.specs.Head.{Book, lastRule, mostVessels, theScale, balancesOf, head_of, bookOf, addsUp}
-use Rattle.book.specs.Calls.{Call, post, lift, tip, ask, meaning, noAnswer}
-use Rattle.book.specs.Memory.{Outcome, outcome, bookChecks, number_of, callOn, transferred, tipped, reported}
+use Rattle.book.specs.Head.{Book, last_rule, most_vessels, the_scale, balances_of, head_of, book_of, adds_up}
+use Rattle.book.specs.Calls.{Call, post, lift, tip, ask, meaning, no_answer}
+use Rattle.book.specs.Memory.{Outcome, outcome, book_checks, number_of, call_on, transferred, tipped, reported}
 use Rattle.book.proofs.Sound.{number, SoundBook, Lies, keeps}
 use Rattle.book.proofs.HeadLaws.{same_refl, all_fit}
 
@@ -30,82 +23,82 @@ no_place t = go (ltb (length t) 4) refl
     go false e = sym (ne_eqb (places_of t) 0 (λ z. omega (arith, ltb-false (length t) 4 e)))
 
 -- checks 1 and 4, as `refusal_of` finds them
-module _ (h : Head) (t : List ℕ) (c : Bool) (long : 4 ≤ length t) (e : c ≡ addsUp h t) where
-  pub book-adds-up : c ≡ true → 0 ≡ first (bookChecks h t)
-  unfolding bookChecks
-  book-adds-up q = rw (le-ltb _ _ long, ← e, q)
+module _ (h : Head) (t : List ℕ) (c : Bool) (long : 4 ≤ length t) (e : c ≡ adds_up h t) where
+  pub book_adds_up : c ≡ true → 0 ≡ first (book_checks h t)
+  unfolding book_checks
+  book_adds_up q = rw (le-ltb _ _ long, ← e, q)
 
-  pub book-off : c ≡ false → 4 ≡ first (bookChecks h t)
-  unfolding bookChecks
-  book-off q = rw (le-ltb _ _ long, ← e, q)
+  pub book_off : c ≡ false → 4 ≡ first (book_checks h t)
+  unfolding book_checks
+  book_off q = rw (le-ltb _ _ long, ← e, q)
 
 -- a call answers its number
-pub call-number : (h : Head) (t : List ℕ) (c : Call) → (callOn h t c).number ≡ number_of h t c
-unfolding callOn
-call-number h t c = go (number_of h t c)
+pub call_number : (h : Head) (t : List ℕ) (c : Call) → (call_on h t c).number ≡ number_of h t c
+unfolding call_on
+call_number h t c = go (number_of h t c)
   where
     go : (n : ℕ) → (outcome h t (meaning c) n).number ≡ n
     go zero = refl
     go (suc n) = refl
 
 -- what the code answers is all of it
-pub answer-told : (o : Outcome)
+pub answer_told : (o : Outcome)
     → (transferred o ≡ record { number = o.number; head = o.head; whole = o.answer.whole; split = o.answer.split; born = o.answer.born })
     × (tipped o ≡ record { number = o.number; head = o.head })
     × (reported o ≡ record { number = o.number; head = o.head })
-answer-told o = (refl, refl, refl)
+answer_told o = (refl, refl, refl)
 
 -- a refused call gives back the head and leaves all memory as it was
-pub refused-on : (h : Head) (t : List ℕ) (c : Call) (n : ℕ) → number_of h t c ≡ n → (n ≡ 0 → ⊥)
-    → callOn h t c ≡ record { number = n; answer = noAnswer; head = h; table = t; room = (meaning c).lent; even = 0 }
-unfolding callOn
-refused-on h t c n e nz = rw e (go n nz)
+pub refused_on : (h : Head) (t : List ℕ) (c : Call) (n : ℕ) → number_of h t c ≡ n → (n ≡ 0 → ⊥)
+    → call_on h t c ≡ record { number = n; answer = no_answer; head = h; table = t; room = (meaning c).lent; even = 0 }
+unfolding call_on
+refused_on h t c n e nz = rw e (go n nz)
   where
-    go : (n : ℕ) → (n ≡ 0 → ⊥) → outcome h t (meaning c) n ≡ record { number = n; answer = noAnswer; head = h; table = t; room = (meaning c).lent; even = 0 }
+    go : (n : ℕ) → (n ≡ 0 → ⊥) → outcome h t (meaning c) n ≡ record { number = n; answer = no_answer; head = h; table = t; room = (meaning c).lent; even = 0 }
     go zero nz = absurd (nz refl)
     go (suc n) nz = refl
 
 -- and an accepted one gives and leaves what it means
-pub accepted-on : (h : Head) (t : List ℕ) (c : Call) → number_of h t c ≡ 0 → callOn h t c ≡ outcome h t (meaning c) 0
-unfolding callOn
-accepted-on h t c e = rw e
+pub accepted_on : (h : Head) (t : List ℕ) (c : Call) → number_of h t c ≡ 0 → call_on h t c ≡ outcome h t (meaning c) 0
+unfolding call_on
+accepted_on h t c e = rw e
 
-pub refused-memory : (h : Head) (t : List ℕ) (c : Call) → ((callOn h t c).number ≡ 0 → ⊥) → ((callOn h t c).head ≡ h) × ((callOn h t c).table ≡ t)
-unfolding callOn
-refused-memory h t c nz = go (number_of h t c) nz
+pub refused_memory : (h : Head) (t : List ℕ) (c : Call) → ((call_on h t c).number ≡ 0 → ⊥) → ((call_on h t c).head ≡ h) × ((call_on h t c).table ≡ t)
+unfolding call_on
+refused_memory h t c nz = go (number_of h t c) nz
   where
     go : (n : ℕ) → ((outcome h t (meaning c) n).number ≡ 0 → ⊥) → ((outcome h t (meaning c) n).head ≡ h) × ((outcome h t (meaning c) n).table ≡ t)
     go zero nz = absurd (nz refl)
     go (suc n) nz = (refl, refl)
 
-pub refused-even : (h : Head) (t : List ℕ) (c : Call) → ((callOn h t c).number ≡ 0 → ⊥) → (callOn h t c).even ≡ 0
-unfolding callOn
-refused-even h t c nz = go (number_of h t c) nz
+pub refused_even : (h : Head) (t : List ℕ) (c : Call) → ((call_on h t c).number ≡ 0 → ⊥) → (call_on h t c).even ≡ 0
+unfolding call_on
+refused_even h t c nz = go (number_of h t c) nz
   where
     go : (n : ℕ) → ((outcome h t (meaning c) n).number ≡ 0 → ⊥) → (outcome h t (meaning c) n).even ≡ 0
     go zero nz = absurd (nz refl)
     go (suc n) nz = refl
 
 -- the number of a call: checks 1 and 4, then its own
-pub number-split : (h : Head) (t : List ℕ) (c : Call)
-    → number_of h t c ≡ ifZero (first (bookChecks h t)) (first ((meaning c).checks (places_of t) (bookOf h t))) (first (bookChecks h t))
-unfolding number_of bookChecks
-number-split h t c = first-append (bookChecks h t) ((meaning c).checks (places_of t) (bookOf h t)) tt
+pub number_split : (h : Head) (t : List ℕ) (c : Call)
+    → number_of h t c ≡ ifZero (first (book_checks h t)) (first ((meaning c).checks (places_of t) (book_of h t))) (first (book_checks h t))
+unfolding number_of book_checks
+number_split h t c = first_append (book_checks h t) ((meaning c).checks (places_of t) (book_of h t)) tt
 
-pub off-number : (h : Head) (t : List ℕ) (c : Call) (n : ℕ) → n ≡ first (bookChecks h t) → (n ≡ 0 → ⊥) → number_of h t c ≡ n
-off-number h t c n e nz = number-split h t c ∙ rw (← e) (sym (not-zero n _ n nz))
+pub off_number : (h : Head) (t : List ℕ) (c : Call) (n : ℕ) → n ≡ first (book_checks h t) → (n ≡ 0 → ⊥) → number_of h t c ≡ n
+off_number h t c n e nz = number_split h t c ∙ rw (← e) (sym (not_zero n _ n nz))
 
-pub on-number : (h : Head) (t : List ℕ) (c : Call) (n : ℕ) → n ≡ first (bookChecks h t) → n ≡ 0 → number_of h t c ≡ first ((meaning c).checks (places_of t) (bookOf h t))
-on-number h t c n e z = number-split h t c ∙ rw (← e, z)
+pub on_number : (h : Head) (t : List ℕ) (c : Call) (n : ℕ) → n ≡ first (book_checks h t) → n ≡ 0 → number_of h t c ≡ first ((meaning c).checks (places_of t) (book_of h t))
+on_number h t c n e z = number_split h t c ∙ rw (← e, z)
 
 -- a call that is accepted has passed checks 1 and 4
-pub passed-book : (h : Head) (t : List ℕ) (c : Call) → number_of h t c ≡ 0 → first (bookChecks h t) ≡ 0
-passed-book h t c e = first-zero (first (bookChecks h t)) _ (sym (number-split h t c) ∙ e)
+pub passed_book : (h : Head) (t : List ℕ) (c : Call) → number_of h t c ≡ 0 → first (book_checks h t) ≡ 0
+passed_book h t c e = first_zero (first (book_checks h t)) _ (sym (number_split h t c) ∙ e)
 
 -- checks 1 and 4 are passed
-pub book-passed : (h : Head) (t : List ℕ) → first (bookChecks h t) ≡ 0 → (4 ≤ length t) × (addsUp h t ≡ true)
-unfolding bookChecks
-book-passed h t e = let p = passed (bookChecks h t) tt e in (ltb-false _ _ p.0, go (addsUp h t) p.1.0)
+pub book_passed : (h : Head) (t : List ℕ) → first (book_checks h t) ≡ 0 → (4 ≤ length t) × (adds_up h t ≡ true)
+unfolding book_checks
+book_passed h t e = let p = passed (book_checks h t) tt e in (ltb-false _ _ p.0, go (adds_up h t) p.1.0)
   where
     go : (c : Bool) → not c ≡ false → c ≡ true
     go true u = refl
@@ -113,56 +106,56 @@ book-passed h t e = let p = passed (bookChecks h t) tt e in (ltb-false _ _ p.0, 
 
 -- A head and a table that hold the book b.
 pub record On (places : ℕ) (h : Head) (t : List ℕ) (b : Book) : Type 0 where
-  pub head-is : h ≡ head_of b
+  pub head_is : h ≡ head_of b
   pub lies : Lies places b.pieces t
 
 module _ (places : ℕ) (h : Head) (t : List ℕ) (b : Book) (on : On places h t b) (o : SoundBook places b) where
-  pub back : bookOf h t ≡ b
-  back = rw (on.head-is, on.lies.table_is, pieces-flat)
+  pub back : book_of h t ≡ b
+  back = rw (on.head_is, on.lies.table_is, pieces_flat)
 
-  pub adds : addsUp h t ≡ true
-  unfolding addsUp
+  pub adds : adds_up h t ≡ true
+  unfolding adds_up
   adds = rw (
     on.lies.places_is,
-    on.head-is,
+    on.head_is,
     on.lies.table_is,
-    pieces-flat,
-    le-leb _ lastRule o.known,
-    le-leb 1 _ o.some-vessel,
-    le-leb _ mostVessels o.vessels-fit,
+    pieces_flat,
+    le-leb _ last_rule o.known,
+    le-leb 1 _ o.some_vessel,
+    le-leb _ most_vessels o.vessels_fit,
     le-leb _ _ o.fits,
     le-leb _ _ o.counted,
     all_fit _ _ o.sound,
-    same_refl (balancesOf b.vessels b.pieces),
-    eq-eqb (held theScale b.pieces) _ refl,
+    same_refl (balances_of b.vessels b.pieces),
+    eq-eqb (held the_scale b.pieces) _ refl,
   )
 
   pub number_same : (c : Call) → number_of h t c ≡ number places b c
-  unfolding number_of bookChecks number
+  unfolding number_of book_checks number
   number_same c = rw (adds, back, no_place, on.lies.places_is)
 
   -- a call in memory is the call on the book
   pub record InStep (c : Call) (n : ℕ) : Type 0 where
-    pub number_is : (callOn h t c).number ≡ n
-    pub even_is : (callOn h t c).even ≡ ifZero n ((meaning c).even b) 0
-    pub holds : On places (callOn h t c).head (callOn h t c).table (ifZero n ((meaning c).next b) b)
+    pub number_is : (call_on h t c).number ≡ n
+    pub even_is : (call_on h t c).even ≡ ifZero n ((meaning c).even b) 0
+    pub holds : On places (call_on h t c).head (call_on h t c).table (ifZero n ((meaning c).next b) b)
     pub sound : SoundBook places (ifZero n ((meaning c).next b) b)
 
   pub in_step : (c : Call) → InStep c (number places b c)
-  unfolding callOn
+  unfolding call_on
   in_step c = go (number places b c) refl (number_same c)
     where
       go : (n : ℕ) → number places b c ≡ n → number_of h t c ≡ number places b c → InStep c n
       go zero e s =
           let k = keeps places b c o e in
           let z : number_of h t c ≡ 0 = s ∙ e in
-          record { number_is = rw z; even_is = rw (z, back); holds = rw (z, back) (record { head-is = refl; lies = k.lies t on.lies }); sound = k.sound }
+          record { number_is = rw z; even_is = rw (z, back); holds = rw (z, back) (record { head_is = refl; lies = k.lies t on.lies }); sound = k.sound }
       go (suc n) e s = let z : number_of h t c ≡ suc n = s ∙ e in record { number_is = rw z; even_is = rw z; holds = rw z on; sound = o }
 
 -- no call alters the rule or the number of vessels
-pub rule-kept : (h : Head) (t : List ℕ) (c : Call) → ((callOn h t c).head.rule ≡ h.rule) × ((callOn h t c).head.vessels ≡ h.vessels)
-unfolding callOn
-rule-kept h t c = go c (number_of h t c)
+pub rule_kept : (h : Head) (t : List ℕ) (c : Call) → ((call_on h t c).head.rule ≡ h.rule) × ((call_on h t c).head.vessels ≡ h.vessels)
+unfolding call_on
+rule_kept h t c = go c (number_of h t c)
   where
     go : (c : Call) (n : ℕ) → ((outcome h t (meaning c) n).head.rule ≡ h.rule) × ((outcome h t (meaning c) n).head.vessels ≡ h.vessels)
     go (post x) zero = (refl, refl)

@@ -10,11 +10,11 @@ use Rattle.book.specs.declared.Lift.{Lift}
 use Rattle.book.specs.declared.Tip.{Tip}
 use Rattle.book.specs.declared.Motion.{Motion}
 use Rattle.book.specs.declared.Report.{Report}
-use Rattle.book.specs.Head.{Book, theScale}
-use Rattle.book.specs.Motion.{ofBook, loaded, takes, piecesAfter, bookAfter}
-use Rattle.book.specs.Transfer.{transferChecks, motionOf}
-use Rattle.book.specs.Scale.{liftChecks, tipChecks, liftMotion, tipMotion, asTheyLie}
-use Rattle.book.specs.Reports.{reportRow, reportChecks, onto}
+use Rattle.book.specs.Head.{Book, the_scale}
+use Rattle.book.specs.Motion.{of_book, loaded, takes, pieces_after, book_after}
+use Rattle.book.specs.Transfer.{transfer_checks, motion_of}
+use Rattle.book.specs.Scale.{lift_checks, tip_checks, lift_motion, tip_motion, as_they_lie}
+use Rattle.book.specs.Reports.{report_row, report_checks, onto}
 
 -- A call: a transfer, a lift, a tip, or a report with the room that it is lent to write to.
 pub data Call : Type 0 where
@@ -29,15 +29,15 @@ pub record Answer : Type 0 where
   pub split : ℕ
   pub born : ℕ
 
-abbrev pub noAnswer : Answer
-noAnswer = record { whole = 0; split = 0; born = 0 }
+abbrev pub no_answer : Answer
+no_answer = record { whole = 0; split = 0; born = 0 }
 
 abbrev pub answer_of : Taken → Answer
 answer_of r = record { whole = r.whole; split = r.split; born = r.born }
 
 -- "An accepted transfer without split or birth is even."
-abbrev pub evenOf : Answer → ℕ
-evenOf a = ifZero (a.split + a.born) 1 0
+abbrev pub even_of : Answer → ℕ
+even_of a = ifZero (a.split + a.born) 1 0
 
 -- What a call means, on any book.
 pub record Meaning : Type 0 where
@@ -55,34 +55,34 @@ pub record Meaning : Type 0 where
   pub even : Book → ℕ
 
 -- What takes weight from a vessel, by the rule of the book: a transfer, and a lift, which answers and counts as one.
--- Number 11, "split or birth due, pieces = places": the pieces afterwards would exceed the places (`table-full` shows the two the same).
+-- Number 11, "split or birth due, pieces = places": the pieces afterwards would exceed the places (`table_full` shows the two the same).
 -- "Numbers behind the last piece are never written": `lay`.
 abbrev pub taking : (Book → List Check) → Motion → Meaning
 taking checks m =
     record {
-      checks = λ places b. checks b ++ (11 if ltb places (length (piecesAfter b b.rule m)) ∷ []);
+      checks = λ places b. checks b ++ (11 if ltb places (length (pieces_after b b.rule m)) ∷ []);
       answer = λ b. answer_of (takes b b.rule m);
-      next = λ b. bookAfter b b.rule m;
-      table = λ b. lay (piecesAfter b b.rule m);
+      next = λ b. book_after b b.rule m;
+      table = λ b. lay (pieces_after b b.rule m);
       room = λ b. [];
       lent = [];
       counts = 1;
-      even = λ b. evenOf (answer_of (takes b b.rule m));
+      even = λ b. even_of (answer_of (takes b b.rule m));
     }
 
 -- the tip y of a book, which moves all that lies on its scale
-abbrev pub tipOn : Book → Tip → Motion
-tipOn b y = tipMotion (held theScale b.pieces) y
+abbrev pub tip_on : Book → Tip → Motion
+tip_on b y = tip_motion (held the_scale b.pieces) y
 
 abbrev pub meaning : Call → Meaning
-meaning (post x) = taking (λ b. transferChecks (ofBook b) x) (motionOf x)
-meaning (lift x) = taking (λ b. liftChecks (ofBook b) x) (liftMotion x)
+meaning (post x) = taking (λ b. transfer_checks (of_book b) x) (motion_of x)
+meaning (lift x) = taking (λ b. lift_checks (of_book b) x) (lift_motion x)
 meaning (tip y) =
     record {
-      checks = λ places b. tipChecks (ofBook b) y;
-      answer = λ b. noAnswer;
-      next = λ b. bookAfter b asTheyLie (tipOn b y);
-      table = λ b. lay (piecesAfter b asTheyLie (tipOn b y));
+      checks = λ places b. tip_checks (of_book b) y;
+      answer = λ b. no_answer;
+      next = λ b. book_after b as_they_lie (tip_on b y);
+      table = λ b. lay (pieces_after b as_they_lie (tip_on b y));
       room = λ b. [];
       lent = [];
       counts = 0;
@@ -90,11 +90,11 @@ meaning (tip y) =
     }
 meaning (ask q room) =
     record {
-      checks = λ places b. loaded (ofBook b) ∷ reportChecks b.vessels (length room) q;
-      answer = λ b. noAnswer;
+      checks = λ places b. loaded (of_book b) ∷ report_checks b.vessels (length room) q;
+      answer = λ b. no_answer;
       next = λ b. b;
       table = λ b t. t;
-      room = λ b. onto (reportRow b.vessels b.pieces q) room;
+      room = λ b. onto (report_row b.vessels b.pieces q) room;
       lent = room;
       counts = 0;
       even = λ b. 0;

@@ -11,35 +11,35 @@ use Rattle.book.specs.declared.Head.{Head}
 use Rattle.book.specs.declared.Opened.{Opened}
 
 -- "rule is 0 to 3; V is 1 to 64"
-abbrev pub lastRule : ℕ
-lastRule = 3
+abbrev pub last_rule : ℕ
+last_rule = 3
 
-abbrev pub mostVessels : ℕ
-mostVessels = 64
+abbrev pub most_vessels : ℕ
+most_vessels = 64
 
 -- "The scale is one more holder, number 64, with a balance of its own in the head."
-abbrev pub theScale : ℕ
-theScale = mostVessels
+abbrev pub the_scale : ℕ
+the_scale = most_vessels
 
 -- all vessels, and the scale
-abbrev pub mostHolders : ℕ
-mostHolders = 65
+abbrev pub most_holders : ℕ
+most_holders = 65
 
 -- the holders that a book of so many vessels has
-abbrev pub isHolder : ℕ → ℕ → Bool
-isHolder size v = ltb v size || eqb v theScale
+abbrev pub is_holder : ℕ → ℕ → Bool
+is_holder size v = ltb v size || eqb v the_scale
 
 -- the balances of all holders, the scale's last
 abbrev pub holdings : Head → List ℕ
 holdings h = h.balances ++ (h.scale ∷ [])
 
 -- the balance of a holder, and the head with another one
-unfoldable pub balanceAt : Head → ℕ → ℕ
-balanceAt h v = cond (eqb v theScale) h.scale (get_or h.balances v 0)
+unfoldable pub balance_at : Head → ℕ → ℕ
+balance_at h v = cond (eqb v the_scale) h.scale (get_or h.balances v 0)
 
-unfoldable pub withBalance : Head → ℕ → ℕ → Head
-withBalance h v w =
-    let scaled = eqb v theScale in
+unfoldable pub with_balance : Head → ℕ → ℕ → Head
+with_balance h v w =
+    let scaled = eqb v the_scale in
     record {
       rule = h.rule;
       vessels = h.vessels;
@@ -53,19 +53,19 @@ withBalance h v w =
 -- the head after a holder gave weight and another received weight
 abbrev pub shifted : Head → ℕ → ℕ → ℕ → ℕ → Head
 shifted h s given d received =
-    let less = withBalance h s (balanceAt h s - given) in
-    withBalance less d (balanceAt less d + received)
+    let less = with_balance h s (balance_at h s - given) in
+    with_balance less d (balance_at less d + received)
 
 -- The numbers of that head are ones of 32 bits: the source has what it gives, and the destination has room.
 pub record Shiftable (h : Head) (s given d received : ℕ) : Type 0 where
-  pub source_in : s < mostHolders
-  pub destination-in : d < mostHolders
-  pub there : given ≤ balanceAt h s
-  pub room : balanceAt (withBalance h s (balanceAt h s - given)) d + received ≤ TOP
+  pub source_in : s < most_holders
+  pub destination_in : d < most_holders
+  pub there : given ≤ balance_at h s
+  pub room : balance_at (with_balance h s (balance_at h s - given)) d + received ≤ TOP
 
 -- Every number of a head in memory is one of 32 bits. (So it is of any head that the code is given; the code's promises pass it on.)
 pub record Sized (h : Head) : Type 0 where
-  pub light : (v : ℕ) → balanceAt h v ≤ TOP
+  pub light : (v : ℕ) → balance_at h v ≤ TOP
   pub tally : h.accepted ≤ TOP
 
 -- A book: what the head says, and the pieces in order of receipt.
@@ -82,11 +82,11 @@ tab f i zero = []
 tab f i (suc n) = f i ∷ tab f (suc i) n
 
 -- "each balance below V is the sum of that holder's weights, not wrapped; .. balances from V on are 0"
-abbrev pub balanceOf : ℕ → List Piece → ℕ → ℕ
-balanceOf size ps v = cond (ltb v size) (held v ps) 0
+abbrev pub balance_of : ℕ → List Piece → ℕ → ℕ
+balance_of size ps v = cond (ltb v size) (held v ps) 0
 
-unfoldable pub balancesOf : ℕ → List Piece → List ℕ
-balancesOf size ps = tab (balanceOf size ps) 0 mostVessels
+unfoldable pub balances_of : ℕ → List Piece → List ℕ
+balances_of size ps = tab (balance_of size ps) 0 most_vessels
 
 -- the head of a book, and the book that a head and a table are
 abbrev pub head_of : Book → Head
@@ -97,12 +97,12 @@ head_of b =
       pieces = length b.pieces;
       last = b.last;
       accepted = b.accepted;
-      balances = balancesOf b.vessels b.pieces;
-      scale = held theScale b.pieces;
+      balances = balances_of b.vessels b.pieces;
+      scale = held the_scale b.pieces;
     }
 
-abbrev pub bookOf : Head → List ℕ → Book
-bookOf h t = record { rule = h.rule; vessels = h.vessels; last = h.last; accepted = h.accepted; pieces = pieces_of h.pieces t }
+abbrev pub book_of : Head → List ℕ → Book
+book_of h t = record { rule = h.rule; vessels = h.vessels; last = h.last; accepted = h.accepted; pieces = pieces_of h.pieces t }
 
 -- whether all of these hold
 abbrev pub all_of : List Bool → Bool
@@ -110,17 +110,17 @@ all_of [] = true
 all_of (t ∷ ts) = t && all_of ts
 
 -- "each piece has holder and origin below V, birth ≤ last minute, weight ≥ 1"; and "a book that adds up may have holder 64"
-abbrev pub lotTests : ℕ → ℕ → Piece → List Bool
-lotTests size last p = ltb p.origin size ∷ leb p.birth last ∷ leb 1 p.weight ∷ []
+abbrev pub lot_tests : ℕ → ℕ → Piece → List Bool
+lot_tests size last p = ltb p.origin size ∷ leb p.birth last ∷ leb 1 p.weight ∷ []
 
-abbrev pub lotFits : ℕ → ℕ → Piece → Bool
-lotFits size last p = all_of (lotTests size last p)
+abbrev pub lot_fits : ℕ → ℕ → Piece → Bool
+lot_fits size last p = all_of (lot_tests size last p)
 
-abbrev pub pieceTests : ℕ → ℕ → Piece → List Bool
-pieceTests size last p = isHolder size p.holder ∷ lotTests size last p
+abbrev pub piece_tests : ℕ → ℕ → Piece → List Bool
+piece_tests size last p = is_holder size p.holder ∷ lot_tests size last p
 
 abbrev pub fits : ℕ → ℕ → Piece → Bool
-fits size last p = all_of (pieceTests size last p)
+fits size last p = all_of (piece_tests size last p)
 
 -- whether every piece passes the test
 unfoldable pub every : (Piece → Bool) → List Piece → Bool
@@ -135,43 +135,43 @@ same (x ∷ xs) [] = false
 same (x ∷ xs) (y ∷ ys) = eqb x y && same xs ys
 
 -- whether all numbers are 0
-unfoldable pub allZero : List ℕ → Bool
-allZero [] = true
-allZero (x ∷ xs) = eqb x 0 && allZero xs
+unfoldable pub all_zero : List ℕ → Bool
+all_zero [] = true
+all_zero (x ∷ xs) = eqb x 0 && all_zero xs
 
 -- "each piece ..; each balance ..", and "the scale's balance is the sum of its pieces"
 abbrev pub balanced : Head → List Piece → List Bool
-balanced h ps = every (fits h.vessels h.last) ps ∷ same h.balances (balancesOf h.vessels ps) ∷ eqb h.scale (held theScale ps) ∷ []
+balanced h ps = every (fits h.vessels h.last) ps ∷ same h.balances (balances_of h.vessels ps) ∷ eqb h.scale (held the_scale ps) ∷ []
 
 -- "A book adds up if: rule is 0 to 3; V is 1 to 64; pieces ≤ places; pieces ≤ accepted; .."
-abbrev pub bookTests : Head → List ℕ → List Bool
-bookTests h t =
-    leb h.rule lastRule
+abbrev pub book_tests : Head → List ℕ → List Bool
+book_tests h t =
+    leb h.rule last_rule
     ∷ leb 1 h.vessels
-    ∷ leb h.vessels mostVessels
+    ∷ leb h.vessels most_vessels
     ∷ leb h.pieces (places_of t)
     ∷ leb h.pieces h.accepted
     ∷ balanced h (pieces_of h.pieces t)
 
-unfoldable pub addsUp : Head → List ℕ → Bool
-addsUp h t = all_of (bookTests h t)
+unfoldable pub adds_up : Head → List ℕ → Bool
+adds_up h t = all_of (book_tests h t)
 
 -- "Opening takes a rule and V; the fresh head has all other numbers 0." It checks 2, 3; a refusal gives a head of zeros.
-abbrev pub emptyHead : ℕ → ℕ → Head
-emptyHead rule size = record { rule = rule; vessels = size; pieces = 0; last = 0; accepted = 0; balances = replicate mostVessels 0; scale = 0 }
+abbrev pub empty_head : ℕ → ℕ → Head
+empty_head rule size = record { rule = rule; vessels = size; pieces = 0; last = 0; accepted = 0; balances = replicate most_vessels 0; scale = 0 }
 
-abbrev pub notOpened : ℕ → Opened
-notOpened n = record { number = n; head = emptyHead 0 0 }
+abbrev pub not_opened : ℕ → Opened
+not_opened n = record { number = n; head = empty_head 0 0 }
 
-abbrev pub openChecks : ℕ → ℕ → List Check
-openChecks rule size = 2 if ltb lastRule rule ∷ 3 if ltb size 1 ∷ 3 if ltb mostVessels size ∷ []
+abbrev pub open_checks : ℕ → ℕ → List Check
+open_checks rule size = 2 if ltb last_rule rule ∷ 3 if ltb size 1 ∷ 3 if ltb most_vessels size ∷ []
 
 abbrev pub opens : ℕ → ℕ → ℕ → Opened
-opens rule size zero = record { number = 0; head = emptyHead rule size }
-opens rule size (suc n) = notOpened (suc n)
+opens rule size zero = record { number = 0; head = empty_head rule size }
+opens rule size (suc n) = not_opened (suc n)
 
 unfoldable pub opening : ℕ → ℕ → Opened
-opening rule size = opens rule size (first (openChecks rule size))
+opening rule size = opens rule size (first (open_checks rule size))
 
 -- the empty book
 abbrev pub opened : ℕ → ℕ → Book

@@ -1,13 +1,13 @@
 -- Lists of calls, and demand 3: "Each call gets the head that the last one returned and the table as that one left it."
 -- Definitions only. Assumes nothing.
 use Rattle.std.specs.Prelude.{◌≡◌, true, List, [], ◌∷◌, ℕ, ◌+◌, ◌≤◌, length}
-use Rattle.table.specs.Pieces.{sum, bornAt, held}
+use Rattle.table.specs.Pieces.{sum, born_at, held}
 use Rattle.table.specs.Table.{places_of}
 use Rattle.refusal.specs.Numbers.{ifZero}
 use Rattle.book.specs.declared.Head.{Head}
-use Rattle.book.specs.Head.{Book, bookOf, addsUp, opened}
+use Rattle.book.specs.Head.{Book, book_of, adds_up, opened}
 use Rattle.book.specs.Calls.{Call, post, lift, tip, ask, meaning}
-use Rattle.book.specs.Memory.{Outcome, callOn}
+use Rattle.book.specs.Memory.{Outcome, call_on}
 use Rattle.book.specs.WeighBook.{blank, feed, listed, forecast}
 
 -- a call with its number, and how often it was an even transfer
@@ -25,9 +25,9 @@ pub record Journal : Type 0 where
 abbrev pub noted : Call → Outcome → Journal → Journal
 noted c o r = record { log = record { asked = c; number = o.number; even = o.even } ∷ r.log; head = r.head; table = r.table }
 
-unfoldable pub callsOn : Head → List ℕ → List Call → Journal
-callsOn h t [] = record { log = []; head = h; table = t }
-callsOn h t (c ∷ cs) = let o = callOn h t c in noted c o (callsOn o.head o.table cs)
+unfoldable pub calls_on : Head → List ℕ → List Call → Journal
+calls_on h t [] = record { log = []; head = h; table = t }
+calls_on h t (c ∷ cs) = let o = call_on h t c in noted c o (calls_on o.head o.table cs)
 
 -- the calls answered 0
 abbrev pub answered : List Entry → List Call
@@ -45,15 +45,15 @@ abbrev pub transfers : List Call → ℕ
 transfers [] = 0
 transfers (c ∷ cs) = (meaning c).counts + transfers cs
 
-abbrev pub tipsIn : Call → ℕ
-tipsIn (post x) = 0
-tipsIn (lift x) = 0
-tipsIn (tip y) = 1
-tipsIn (ask q room) = 0
+abbrev pub tips_in : Call → ℕ
+tips_in (post x) = 0
+tips_in (lift x) = 0
+tips_in (tip y) = 1
+tips_in (ask q room) = 0
 
 abbrev pub tips : List Call → ℕ
 tips [] = 0
-tips (c ∷ cs) = tipsIn c + tips cs
+tips (c ∷ cs) = tips_in c + tips cs
 
 abbrev pub evens : List Entry → ℕ
 evens [] = 0
@@ -66,17 +66,17 @@ numbers (e ∷ es) = listed e.asked e.number (numbers es)
 -- Demand 3, of the journal r of the calls cs on the head of an opening with this rule and this many vessels, and on the table t.
 pub record Demand3 (rule size : ℕ) (t : List ℕ) (cs : List Call) (r : Journal) : Type 0 where
   -- the pieces are those, in that order, of the accepted calls followed in turn from the empty book
-  pub in-turn : bookOf r.head r.table ≡ follow (opened rule size) (answered r.log)
+  pub in_turn : book_of r.head r.table ≡ follow (opened rule size) (answered r.log)
   -- in each vessel, and on the scale, they sum to the weigh book's weight there, fed the accepted transfers, lifts and tips
-  pub vessel-sums : (v : ℕ) → held v (bookOf r.head r.table).pieces ≡ (feed (blank size) (answered r.log)).weight v
+  pub vessel_sums : (v : ℕ) → held v (book_of r.head r.table).pieces ≡ (feed (blank size) (answered r.log)).weight v
   -- for each origin and birth minute they sum to what the weigh book saw born
-  pub birth-sums : (o m : ℕ) → sum (bornAt o m) (bookOf r.head r.table).pieces ≡ (feed (blank size) (answered r.log)).births o m
+  pub birth_sums : (o m : ℕ) → sum (born_at o m) (book_of r.head r.table).pieces ≡ (feed (blank size) (answered r.log)).births o m
   -- pieces + even transfers = accepted transfers, with lifts as transfers and no tip counted
-  pub even-count : r.head.pieces + evens r.log ≡ r.head.accepted
+  pub even_count : r.head.pieces + evens r.log ≡ r.head.accepted
   -- the head's count is the number of transfers and lifts answered 0
-  pub accepted-count : r.head.accepted ≡ transfers (answered r.log)
+  pub accepted_count : r.head.accepted ≡ transfers (answered r.log)
   -- where no more transfers are listed, lifts and refused ones counted, than there are places, the weigh book alone gives the number of every
   -- transfer and lift; and of every tip, if the table has at least 4 numbers
   pub forecasts : transfers cs ≤ places_of t → (1 ≤ tips cs → 4 ≤ length t) → numbers r.log ≡ forecast (blank size) cs
   -- the book adds up, so that number 4 never comes
-  pub adds-up : addsUp r.head r.table ≡ true
+  pub adds_up_lem : adds_up r.head r.table ≡ true

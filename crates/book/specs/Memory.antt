@@ -9,8 +9,8 @@ use Rattle.book.specs.declared.Head.{Head}
 use Rattle.book.specs.declared.Transferred.{Transferred}
 use Rattle.book.specs.declared.Tipped.{Tipped}
 use Rattle.book.specs.declared.Reported.{Reported}
-use Rattle.book.specs.Head.{head_of, bookOf, addsUp}
-use Rattle.book.specs.Calls.{Call, Answer, noAnswer, Meaning, meaning}
+use Rattle.book.specs.Head.{head_of, book_of, adds_up}
+use Rattle.book.specs.Calls.{Call, Answer, no_answer, Meaning, meaning}
 
 -- All that a call gives back and leaves, and how often it was an even transfer.
 pub record Outcome : Type 0 where
@@ -22,22 +22,22 @@ pub record Outcome : Type 0 where
   pub even : ℕ
 
 -- "a transfer 1, 4, then 5 to 11 (21 straight after 8); reports 1, 4, 5, 12, 13. The first that applies is given." 22 and 23 come after 4.
-unfoldable pub bookChecks : Head → List ℕ → List Check
-bookChecks h t = 1 if ltb (length t) 4 ∷ 4 if not (addsUp h t) ∷ []
+unfoldable pub book_checks : Head → List ℕ → List Check
+book_checks h t = 1 if ltb (length t) 4 ∷ 4 if not (adds_up h t) ∷ []
 
 unfoldable pub number_of : Head → List ℕ → Call → ℕ
-number_of h t c = first (bookChecks h t ++ (meaning c).checks (places_of t) (bookOf h t))
+number_of h t c = first (book_checks h t ++ (meaning c).checks (places_of t) (book_of h t))
 
 -- what a call of this meaning leaves, where this is its number
 abbrev pub outcome : Head → List ℕ → Meaning → ℕ → Outcome
 outcome h t m zero =
-    let b = bookOf h t in
+    let b = book_of h t in
     record { number = 0; answer = m.answer b; head = head_of (m.next b); table = m.table b t; room = m.room b; even = m.even b }
-outcome h t m (suc n) = record { number = suc n; answer = noAnswer; head = h; table = t; room = m.lent; even = 0 }
+outcome h t m (suc n) = record { number = suc n; answer = no_answer; head = h; table = t; room = m.lent; even = 0 }
 
 -- a call on a head and a table
-unfoldable pub callOn : Head → List ℕ → Call → Outcome
-callOn h t c = outcome h t (meaning c) (number_of h t c)
+unfoldable pub call_on : Head → List ℕ → Call → Outcome
+call_on h t c = outcome h t (meaning c) (number_of h t c)
 
 -- the outcome as the code answers it
 abbrev pub transferred : Outcome → Transferred

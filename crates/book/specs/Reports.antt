@@ -9,36 +9,36 @@ use Rattle.book.specs.declared.Report.TheVariants.{Held, Spread, Whole}
 use Rattle.book.specs.Head.{tab}
 
 -- "Held: vessel v, V numbers, the weight by origin in v."
-abbrev pub fromOrigin : ℕ → ℕ → Kind
-fromOrigin v u h o b = eqb o u && eqb h v
+abbrev pub from_origin : ℕ → ℕ → Kind
+from_origin v u h o b = eqb o u && eqb h v
 
-abbrev pub heldRow : ℕ → ℕ → List Piece → List ℕ
-heldRow size v ps = tab (λ u. sum (fromOrigin v u) ps) 0 size
+abbrev pub held_row : ℕ → ℕ → List Piece → List ℕ
+held_row size v ps = tab (λ u. sum (from_origin v u) ps) 0 size
 
 -- "Spread: origin o and minutes from and to, both included; V numbers, the weight in each vessel born at o in that span."
-abbrev pub bornWithin : ℕ → ℕ → ℕ → ℕ → Kind
-bornWithin u from to v h o b = eqb h v && (eqb o u && (leb from b && leb b to))
+abbrev pub born_within : ℕ → ℕ → ℕ → ℕ → Kind
+born_within u from to v h o b = eqb h v && (eqb o u && (leb from b && leb b to))
 
-abbrev pub spreadRow : ℕ → ℕ → ℕ → ℕ → List Piece → List ℕ
-spreadRow size u from to ps = tab (λ v. sum (bornWithin u from to v) ps) 0 size
+abbrev pub spread_row : ℕ → ℕ → ℕ → ℕ → List Piece → List ℕ
+spread_row size u from to ps = tab (λ v. sum (born_within u from to v) ps) 0 size
 
 -- "Whole: V rows of V numbers, where vessel v's row starts at number v × V and is its held report."
 -- n rows from vessel v on
 unfoldable pub rows : ℕ → ℕ → ℕ → List Piece → List ℕ
 rows size v zero ps = []
-rows size v (suc n) ps = heldRow size v ps ++ rows size (suc v) n ps
+rows size v (suc n) ps = held_row size v ps ++ rows size (suc v) n ps
 
 -- What a report writes: the record `Report` of src/lib.rt says what is asked.
-abbrev pub reportRow : ℕ → List Piece → Report → List ℕ
-reportRow size ps (Held v) = heldRow size v ps
-reportRow size ps (Spread u from to) = spreadRow size u from to ps
-reportRow size ps Whole = rows size 0 size ps
+abbrev pub report_row : ℕ → List Piece → Report → List ℕ
+report_row size ps (Held v) = held_row size v ps
+report_row size ps (Spread u from to) = spread_row size u from to ps
+report_row size ps Whole = rows size 0 size ps
 
 -- checks 5, 12, 13, as they apply: of the number of vessels and the length of the room
-unfoldable pub reportChecks : ℕ → ℕ → Report → List Check
-reportChecks size room (Held v) = 5 if leb size v ∷ 13 if ltb room size ∷ []
-reportChecks size room (Spread u from to) = 5 if leb size u ∷ 12 if ltb to from ∷ 13 if ltb room size ∷ []
-reportChecks size room Whole = 13 if ltb room (size * size) ∷ []
+unfoldable pub report_checks : ℕ → ℕ → Report → List Check
+report_checks size room (Held v) = 5 if leb size v ∷ 13 if ltb room size ∷ []
+report_checks size room (Spread u from to) = 5 if leb size u ∷ 12 if ltb to from ∷ 13 if ltb room size ∷ []
+report_checks size room Whole = 13 if ltb room (size * size) ∷ []
 
 -- "Numbers after these remain."
 abbrev pub onto : List ℕ → List ℕ → List ℕ

@@ -7,16 +7,16 @@ use Rattle.book.specs.declared.Motion.{Motion}
 use Rattle.book.specs.Motion.{Standing, loaded}
 
 -- The largest age: "an unsigned 16-bit number, 0 to 65,535".
-abbrev pub mostAge : ℕ
-mostAge = 65535
+abbrev pub most_age : ℕ
+most_age = 65535
 
 -- "It has source s, destination d, minute t, weight q", and "an age in minutes": the record `Transfer` of src/lib.rt.
-abbrev pub transferOf : ℕ → ℕ → ℕ → ℕ → ℕ → Transfer
-transferOf s d t q age = record { source = s; destination = d; minute = t; weight = q; age = age }
+abbrev pub transfer_of : ℕ → ℕ → ℕ → ℕ → ℕ → Transfer
+transfer_of s d t q age = record { source = s; destination = d; minute = t; weight = q; age = age }
 
 -- 22, then checks 5 to 10, with 21 straight after 8.
-unfoldable pub transferChecks : Standing → Transfer → List Check
-transferChecks g x =
+unfoldable pub transfer_checks : Standing → Transfer → List Check
+transfer_checks g x =
     loaded g
     ∷ 5 if leb g.vessels x.source
     ∷ 5 if leb g.vessels x.destination
@@ -29,8 +29,8 @@ transferChecks g x =
     ∷ []
 
 -- The motion that a transfer is: "what is born has birth t − age", and it counts as one.
-abbrev pub motionOf : Transfer → Motion
-motionOf x =
+abbrev pub motion_of : Transfer → Motion
+motion_of x =
     record {
       moves = record { source = x.source; destination = x.destination; birth = x.minute - x.age; weight = x.weight };
       minute = x.minute;

@@ -4,10 +4,10 @@ use Rattle.std.specs.Prelude.{Bool, true, false, ◌&&◌, cond, List, [], ◌�
 use Rattle.table.specs.Pieces.{only}
 use Rattle.refusal.specs.Numbers.{Check, first, ifZero}
 use Rattle.book.specs.declared.Motion.{Motion}
-use Rattle.book.specs.Head.{theScale}
+use Rattle.book.specs.Head.{the_scale}
 use Rattle.book.specs.Motion.{Standing}
-use Rattle.book.specs.Transfer.{transferChecks, motionOf}
-use Rattle.book.specs.Scale.{liftChecks, tipChecks, liftMotion, tipMotion}
+use Rattle.book.specs.Transfer.{transfer_checks, motion_of}
+use Rattle.book.specs.Scale.{lift_checks, tip_checks, lift_motion, tip_motion}
 use Rattle.book.specs.Calls.{Call, post, lift, tip, ask}
 
 -- "weight W of each vessel, births B of each vessel and minute, last minute, accepted; all 0 at first"; the scale's weight is that of holder 64
@@ -21,8 +21,8 @@ pub record WeighBook : Type 0 where
 abbrev pub blank : ℕ → WeighBook
 blank size = record { vessels = size; weight = λ v. 0; births = λ o t. 0; last = 0; accepted = 0 }
 
-abbrev pub ofWeigh : WeighBook → Standing
-ofWeigh w = record { vessels = w.vessels; balance = w.weight; last = w.last; accepted = w.accepted }
+abbrev pub of_weigh : WeighBook → Standing
+of_weigh w = record { vessels = w.vessels; balance = w.weight; last = w.last; accepted = w.accepted }
 
 -- "born = q − W[s] if positive, else 0; W[s] falls by q − born; W[d] rises by q; B[s, t] rises by born; last = t; accepted rises by 1",
 -- where "the weigh book enters births under t − age"
@@ -48,22 +48,22 @@ pub record Weighing : Type 0 where
 -- weight there to d, sets last and leaves accepted. It makes their checks as it makes a transfer's, gives 22 and 23 by its own weight there";
 -- reports it is not fed
 abbrev pub weighing : Call → Weighing
-weighing (post x) = record { checks = λ w. transferChecks (ofWeigh w) x; next = λ w. weighed w (motionOf x); forecasts = true }
-weighing (lift x) = record { checks = λ w. liftChecks (ofWeigh w) x; next = λ w. weighed w (liftMotion x); forecasts = true }
-weighing (tip y) = record { checks = λ w. tipChecks (ofWeigh w) y; next = λ w. weighed w (tipMotion (w.weight theScale) y); forecasts = true }
+weighing (post x) = record { checks = λ w. transfer_checks (of_weigh w) x; next = λ w. weighed w (motion_of x); forecasts = true }
+weighing (lift x) = record { checks = λ w. lift_checks (of_weigh w) x; next = λ w. weighed w (lift_motion x); forecasts = true }
+weighing (tip y) = record { checks = λ w. tip_checks (of_weigh w) y; next = λ w. weighed w (tip_motion (w.weight the_scale) y); forecasts = true }
 weighing (ask q room) = record { checks = λ w. []; next = λ w. w; forecasts = false }
 
 -- "The first that applies is its answer, and nothing changes."
-unfoldable pub weighNumber : WeighBook → Call → ℕ
-weighNumber w c = first ((weighing c).checks w)
+unfoldable pub weigh_number : WeighBook → Call → ℕ
+weigh_number w c = first ((weighing c).checks w)
 
-abbrev pub weighStep : WeighBook → Call → WeighBook
-weighStep w c = ifZero (weighNumber w c) ((weighing c).next w) w
+abbrev pub weigh_step : WeighBook → Call → WeighBook
+weigh_step w c = ifZero (weigh_number w c) ((weighing c).next w) w
 
 -- fed with calls in turn
 unfoldable pub feed : WeighBook → List Call → WeighBook
 feed w [] = w
-feed w (c ∷ cs) = feed (weighStep w c) cs
+feed w (c ∷ cs) = feed (weigh_step w c) cs
 
 -- a call's number in front, where it is forecast
 abbrev pub listed : Call → ℕ → List ℕ → List ℕ
@@ -72,4 +72,4 @@ listed c n ns = cond (weighing c).forecasts (n ∷ ns) ns
 -- the numbers that it gives to a list's transfers, lifts and tips, fed every one
 unfoldable pub forecast : WeighBook → List Call → List ℕ
 forecast w [] = []
-forecast w (c ∷ cs) = listed c (weighNumber w c) (forecast (weighStep w c) cs)
+forecast w (c ∷ cs) = listed c (weigh_number w c) (forecast (weigh_step w c) cs)

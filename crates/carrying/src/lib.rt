@@ -2,9 +2,9 @@
 #![tactic(auto)]
 
 ghost use Rattle.std.specs.Prelude.{◌≡◌, false, ◌≤◌};
-ghost use Rattle.book.specs.Transfer.{motionOf};
-ghost use Rattle.book.specs.Scale.{liftMotion, tipMotion};
-ghost use Rattle.carrying.specs.Carrying.{Audited, Workable, Carriable, refusedWith, nextHead, Countable, concluded, Carries};
+ghost use Rattle.book.specs.Transfer.{motion_of};
+ghost use Rattle.book.specs.Scale.{lift_motion, tip_motion};
+ghost use Rattle.carrying.specs.Carrying.{Audited, Workable, Carriable, refused_with, next_head, Countable, concluded, Carries};
 
 use book::{Head, Lift, Motion, SCALE, Tip, Transfer, Transferred};
 use ledger::balances;
@@ -14,7 +14,7 @@ use taking::Move;
 // The motion that a transfer is: what is born was milled its age before its minute.
 pub fn motion_of(x: Transfer) -> Motion
     requires { x.age ≤ x.minute }
-    ensures { result ≡ motionOf x }
+    ensures { result ≡ motion_of x }
 {
     Motion {
         moves: Move {
@@ -31,7 +31,7 @@ pub fn motion_of(x: Transfer) -> Motion
 // A lift is a transfer onto the scale.
 pub fn lift_motion(x: Lift) -> Motion
     requires { x.age ≤ x.minute }
-    ensures { result ≡ liftMotion x }
+    ensures { result ≡ lift_motion x }
 {
     motion_of(Transfer {
         source: x.source,
@@ -44,7 +44,7 @@ pub fn lift_motion(x: Lift) -> Motion
 
 // A tip moves all the weight on the scale, and does not count.
 pub fn tip_motion(head: Head, y: Tip) -> Motion
-    ensures { result ≡ tipMotion head.scale y }
+    ensures { result ≡ tip_motion head.scale y }
 {
     Motion {
         moves: Move {
@@ -61,7 +61,7 @@ pub fn tip_motion(head: Head, y: Tip) -> Motion
 // The head after a motion whose pieces were moved so.
 fn next_head(head: Head, m: Motion, moved: Applied) -> Head
     requires { Countable head m moved }
-    ensures { result ≡ nextHead head m moved }
+    ensures { result ≡ next_head head m moved }
 {
     let mut next = balances::shift(
         head,
@@ -78,7 +78,7 @@ fn next_head(head: Head, m: Motion, moved: Applied) -> Head
 
 // A refusal: the head as given, and all other numbers 0.
 pub fn refused(head: Head, number: u32) -> Transferred
-    ensures { result ≡ refusedWith head number }
+    ensures { result ≡ refused_with head number }
 {
     Transferred {
         number: number,

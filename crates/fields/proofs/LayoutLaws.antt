@@ -1,14 +1,11 @@
 -- Laws of a sheet's limits: which counts of movements it can have. Assumes nothing.
-use Prim.Native.Nat.{ℕ, ◌≤◌}
-use mathlib.Core.Path.{◌≡◌, sym, ◌∙◌}
-use mathlib.Core.Bool.{Bool, false}
-use borrow.Author.Tests.{ltb-false, le-ltb}
-use Rattle.fields.specs.Layout.{mostMovements, movementsOff}
+use Rattle.std.proofs.Common.{ℕ, ◌≤◌, ◌≡◌, sym, ◌∙◌, Bool, false, ltb-false, le-ltb}
+use Rattle.fields.specs.Layout.{most_movements, movements_off}
 
-pub few-movements : (n : ℕ) (r : Bool) → r ≡ movementsOff n → r ≡ false → n ≤ mostMovements
-unfolding movementsOff
-few-movements n r e q = ltb-false mostMovements n (sym e ∙ q)
+pub few_movements : (n : ℕ) (r : Bool) → r ≡ movements_off n → r ≡ false → n ≤ most_movements
+unfolding movements_off
+few_movements n r e q = ltb-false most_movements n (sym e ∙ q)
 
-pub movements-fit : (n : ℕ) → n ≤ mostMovements → movementsOff n ≡ false
-unfolding movementsOff
-movements-fit n h = le-ltb mostMovements n h
+pub movements_fit : (n : ℕ) → n ≤ most_movements → movements_off n ≡ false
+unfolding movements_off
+movements_fit n h = le-ltb most_movements n h

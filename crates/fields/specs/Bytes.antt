@@ -2,9 +2,9 @@
 use Rattle.std.specs.Prelude.{ℕ, zero, suc, ◌+◌, ◌*◌, ◌/◌, ◌%◌, Bool, false, ◌||◌, List, [], ◌∷◌, get_or, drop}
 
 -- The number in the first `width` bytes of a list, the low byte first.
-unfoldable pub valueIn : ℕ → List ℕ → ℕ
-valueIn zero l = 0
-valueIn (suc width) l = get_or l 0 0 + 256 * valueIn width (drop 1 l)
+unfoldable pub value_in : ℕ → List ℕ → ℕ
+value_in zero l = 0
+value_in (suc width) l = get_or l 0 0 + 256 * value_in width (drop 1 l)
 
 -- A number in `width` bytes, the low byte first.
 unfoldable pub bytes_of : ℕ → ℕ → List ℕ

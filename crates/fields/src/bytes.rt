@@ -1,7 +1,7 @@
 // Numbers in bytes, the low byte first.
 ghost use Rattle.std.specs.Prelude.{◌≡◌, ◌<◌, ◌≤◌, ◌+◌, length, drop};
 ghost use Rattle.std.proofs.lemmas.List.Edits.{sets};
-ghost use Rattle.fields.specs.Bytes.{valueIn, bytes_of};
+ghost use Rattle.fields.specs.Bytes.{value_in, bytes_of};
 
 fn wide(x: u8) -> u32
     ensures { (result ≡ x) × (result < 256) }
@@ -12,7 +12,7 @@ fn wide(x: u8) -> u32
 // The number in the byte at `at`.
 pub fn read8(s: &[u8], at: usize) -> u32
     requires { at + 1 ≤ length s.now }
-    ensures { (result ≡ valueIn 1 (drop at s.now)) × (result < 256) }
+    ensures { (result ≡ value_in 1 (drop at s.now)) × (result < 256) }
 {
     wide(s[at])
 }
@@ -20,7 +20,7 @@ pub fn read8(s: &[u8], at: usize) -> u32
 // The number in the two bytes from `at` on.
 pub fn read16(s: &[u8], at: usize) -> u32
     requires { at + 2 ≤ length s.now }
-    ensures { (result ≡ valueIn 2 (drop at s.now)) × (result < 65536) }
+    ensures { (result ≡ value_in 2 (drop at s.now)) × (result < 65536) }
 {
     let low = read8(s, at);
     let high = read8(s, at + 1);
@@ -30,7 +30,7 @@ pub fn read16(s: &[u8], at: usize) -> u32
 // The number in the four bytes from `at` on.
 pub fn read32(s: &[u8], at: usize) -> u32
     requires { at + 4 ≤ length s.now }
-    ensures { result ≡ valueIn 4 (drop at s.now) }
+    ensures { result ≡ value_in 4 (drop at s.now) }
 {
     let low = read16(s, at);
     let high = read16(s, at + 2);

@@ -1,8 +1,8 @@
 // The movements of a sheet, and those that the writer is given.
 ghost use Rattle.std.specs.Prelude.{◌≡◌, ◌≤◌, ◌+◌, ◌*◌, length, drop};
 ghost use Rattle.refusal.specs.Numbers.{first};
-ghost use Rattle.book.specs.Transfer.{mostAge};
-ghost use Rattle.fields.specs.Movements.{entrySize, givenSize, entryIn, entriesIn, givenIn, entriesGiven, entryChecks, givenChecks, entriesChecks};
+ghost use Rattle.book.specs.Transfer.{most_age};
+ghost use Rattle.fields.specs.Movements.{entry_size, given_size, entry_in, entries_in, given_in, entries_given, entry_checks, given_checks, entries_checks};
 
 use crate::bytes::{read8, read16, read32};
 use crate::layout::{ENTRY_SIZE, GIVEN_SIZE};
@@ -19,8 +19,8 @@ pub struct Entry {
 
 // The movement in the twelve bytes from `at` on.
 pub fn read_entry(s: &[u8], at: usize) -> Entry
-    requires { at + entrySize ≤ length s.now }
-    ensures { (result ≡ entryIn (drop at s.now)) × (result.age ≤ mostAge) }
+    requires { at + entry_size ≤ length s.now }
+    ensures { (result ≡ entry_in (drop at s.now)) × (result.age ≤ most_age) }
 {
     let source = read8(s, at);
     let destination = read8(s, at + 1);
@@ -38,8 +38,8 @@ pub fn read_entry(s: &[u8], at: usize) -> Entry
 
 // The movement that the writer is given in the numbers from `at` on.
 pub fn given(numbers: &[u32], at: usize) -> Entry
-    requires { at + givenSize ≤ length numbers.now }
-    ensures { result ≡ givenIn (drop at numbers.now) }
+    requires { at + given_size ≤ length numbers.now }
+    ensures { result ≡ given_in (drop at numbers.now) }
 {
     Entry {
         source: numbers[at],
@@ -52,7 +52,7 @@ pub fn given(numbers: &[u32], at: usize) -> Entry
 
 // The first check that a movement of a sheet fails, or 0.
 fn entry_number(e: Entry, vessels: u32) -> u32
-    ensures { result ≡ first (entryChecks vessels e) }
+    ensures { result ≡ first (entry_checks vessels e) }
 {
     if e.source >= vessels {
         return refusal::NO_VESSEL; // no such source
@@ -65,7 +65,7 @@ fn entry_number(e: Entry, vessels: u32) -> u32
 
 // The first check that a movement given fails, or 0.
 fn given_entry_number(e: Entry, vessels: u32) -> u32
-    ensures { result ≡ first (givenChecks vessels e) }
+    ensures { result ≡ first (given_checks vessels e) }
 {
     if e.age > book::MOST_AGE {
         return refusal::AGE_OVER;
@@ -75,8 +75,8 @@ fn given_entry_number(e: Entry, vessels: u32) -> u32
 
 // The first check that a movement fails, of those in the bytes, or 0.
 pub fn read_number(entries: &[u8], count: usize, vessels: u32) -> u32
-    requires { entrySize * count ≤ length entries.now }
-    ensures { result ≡ first (entriesChecks (entryChecks vessels) (entriesIn count entries.now)) }
+    requires { entry_size * count ≤ length entries.now }
+    ensures { result ≡ first (entries_checks (entry_checks vessels) (entries_in count entries.now)) }
 {
     let mut i: usize = 0;
     while i < count {
@@ -91,8 +91,8 @@ pub fn read_number(entries: &[u8], count: usize, vessels: u32) -> u32
 
 // The first check that a movement fails, of those that the writer is given, or 0.
 pub fn given_number(numbers: &[u32], count: usize, vessels: u32) -> u32
-    requires { givenSize * count ≤ length numbers.now }
-    ensures { result ≡ first (entriesChecks (givenChecks vessels) (entriesGiven count numbers.now)) }
+    requires { given_size * count ≤ length numbers.now }
+    ensures { result ≡ first (entries_checks (given_checks vessels) (entries_given count numbers.now)) }
 {
     let mut i: usize = 0;
     while i < count {

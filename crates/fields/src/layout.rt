@@ -1,6 +1,6 @@
 // The sizes and limits of a sheet, where the fields of its header lie, and its mark.
 ghost use Rattle.std.specs.Prelude.{◌≡◌};
-ghost use Rattle.fields.specs.Layout.{mark, movementsOff};
+ghost use Rattle.fields.specs.Layout.{mark, movements_off};
 
 pub const MARK_SIZE: usize = 4; // bytes of the mark
 
@@ -35,7 +35,7 @@ pub fn mark() -> [u8; MARK_SIZE]
 
 // Whether a sheet cannot have that many movements. It can have none.
 pub fn movements_off(movements: usize) -> bool
-    ensures { result ≡ movementsOff movements }
+    ensures { result ≡ movements_off movements }
 {
     MOST_MOVEMENTS < movements
 }

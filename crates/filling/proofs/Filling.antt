@@ -1,29 +1,22 @@
 -- The loops and parts of a report: clearing its numbers, entering a piece, what a pass asks of a book's pieces and leaves, and rows one behind the other.
 -- Assumes nothing.
-use mathlib.Core.Path.{◌≡◌, sym, ap, ◌∙◌}
-use mathlib.Core.Bool.{Bool, true, false, ◌&&◌, cond}
-use mathlib.Core.List.{List, [], ◌∷◌, ◌++◌, append_assoc, append-nil}
-use Prim.Native.Nat.{ℕ, zero, suc, ◌+◌, ◌-◌, ◌*◌, ◌^◌, ◌≤◌, ◌<◌}
-use native.Mathlib.Nat.{zero-mul, suc-mul, mul-le-mul, add-zero}
-use native.Mathlib.Numerals.{add-one}
-use native.Mathlib.Omega.{arith}
-use mir.Syntax.{Width, w32, w64}
-use mir.Val.{bits, Fits}
+use Rattle.std.proofs.Common.{◌≡◌, sym, ap, ◌∙◌, Bool, true, false, ◌&&◌, cond, List, [], ◌∷◌, ◌++◌, append_assoc, append-nil, ℕ, zero, suc, ◌+◌, ◌-◌, ◌*◌, ◌^◌, ◌≤◌, ◌<◌, zero-mul, suc-mul, mul-le-mul, add-zero, add-one, arith, w32, w64, Fits, T, leb, eqb, length, get_or, take, drop, set, replicate, length-take, length-drop, drop_of_length-le, drop-cons, get_or-set_same, take_at, drop_at, take_all, drop-drop}
+use mir.Syntax.{Width}
+use mir.Val.{bits}
 use borrow.Author.Rules.{Fits-under}
-use lib.Dec.{T, leb, eqb}
-use lib.ListN.{length, get_or, take, drop, set, replicate, replicate-append-replicate, length-take, length-drop, length-replicate, drop_of_length-le}
-use lib.Seq.{drop-cons, get_or-set_same, set_at, append_snoc, take_at, drop_at, take_all, drop-drop}
+use lib.ListN.{replicate-append-replicate, length-replicate}
+use lib.Seq.{set_at, append_snoc}
 use Rattle.table.specs.declared.Piece.{Piece}
-use Rattle.table.specs.Pieces.{only, total, weigh, inVessel, sum}
+use Rattle.table.specs.Pieces.{only, total, weigh, in_vessel, sum}
 use Rattle.table.proofs.Pieces.{all_map, all_both}
 use Rattle.refusal.specs.Numbers.{TOP}
-use Rattle.book.specs.Head.{mostVessels}
-use Rattle.book.specs.Reports.{fromOrigin, heldRow, bornWithin, spreadRow, rows, onto}
-use Rattle.book.proofs.ReportLaws.{length-row, length-rows}
+use Rattle.book.specs.Head.{most_vessels}
+use Rattle.book.specs.Reports.{from_origin, held_row, born_within, spread_row, rows, onto}
+use Rattle.book.proofs.ReportLaws.{length_row, length_rows}
 use Rattle.filling.specs.declared.Pass.TheVariants.{ByOrigin, ByHolder, ByBoth}
-use Rattle.filling.specs.Scatter.{cleared, addAt, born, counted, index_of, Tallied, onePass, Reportable}
+use Rattle.filling.specs.Scatter.{cleared, add_at, born, counted, index_of, Tallied, one_pass, Reportable}
 use Rattle.filling.proofs.Scattered.{scattered}
-use Rattle.filling.proofs.Square.{row_below, tally-square, cells-inside, one-pass}
+use Rattle.filling.proofs.Square.{row_below, tally_square, cells_inside, one_pass_lem}
 
 -- clearing: a turn and the end
 pub clear_next : (i n : ℕ) (r₀ r : List ℕ) → i < n → n ≤ length r₀ → r ≡ cleared i r₀ → set r i 0 ≡ cleared (i + 1) r₀
@@ -31,68 +24,68 @@ clear_next i n r₀ r h l e =
     let behind = drop (suc i) r₀ in
     rw (e, ← (replicate-append-replicate {A = ℕ} i 1 0), add-one, drop-cons r₀ i 0 (omega arith)) (set_at (replicate i 0) (get_or r₀ i 0) behind 0 i (length-replicate i 0) ∙ sym (append_snoc (replicate i 0) 0 behind))
 
-pub clear-end : (i n : ℕ) (r₀ r : List ℕ) → i ≤ n → n ≤ i → r ≡ cleared i r₀ → r ≡ cleared n r₀
-clear-end i n r₀ r a b e = let q : n ≡ i = omega arith in rw q e
+pub clear_end : (i n : ℕ) (r₀ r : List ℕ) → i ≤ n → n ≤ i → r ≡ cleared i r₀ → r ≡ cleared n r₀
+clear_end i n r₀ r a b e = let q : n ≡ i = omega arith in rw q e
 
 -- entering a piece, with the answer b to whether it counts: the sum fits, and the two cases
 module _ (r : List ℕ) (i w : ℕ) (b c : Bool) (e : b ≡ c) where
-  pub enter-fits : b ≡ true → (j : ℕ) → j ≡ i → i < length r → get_or (cond c (addAt r i w) r) i 0 ≤ TOP → Fits w32 (get_or r j 0 + w)
-  enter-fits y j ej h k = let k' : get_or (addAt r i w) i 0 ≤ TOP = rw (← e, y) at k in rw ej (record { fits = omega (arith, get_or-set_same r i (get_or r i 0 + w) 0 h) })
+  pub enter_fits : b ≡ true → (j : ℕ) → j ≡ i → i < length r → get_or (cond c (add_at r i w) r) i 0 ≤ TOP → Fits w32 (get_or r j 0 + w)
+  enter_fits y j ej h k = let k' : get_or (add_at r i w) i 0 ≤ TOP = rw (← e, y) at k in rw ej (record { fits = omega (arith, get_or-set_same r i (get_or r i 0 + w) 0 h) })
 
-  pub enter-yes : b ≡ true → (j : ℕ) → j ≡ i → addAt r j w ≡ cond c (addAt r i w) r
-  enter-yes y j ej = rw (ej, ← e, y)
+  pub enter_yes : b ≡ true → (j : ℕ) → j ≡ i → add_at r j w ≡ cond c (add_at r i w) r
+  enter_yes y j ej = rw (ej, ← e, y)
 
-  pub enter-no : b ≡ false → r ≡ cond c (addAt r i w) r
-  enter-no y = rw (← e, y)
+  pub enter_no : b ≡ false → r ≡ cond c (add_at r i w) r
+  enter_no y = rw (← e, y)
 
 -- What the passes over a book's pieces ask: the pieces that one counts at an index are some of those that a vessel holds.
 part : (f g : Piece → ℕ) → ((p : Piece) → f p ≤ g p) → (ps : List Piece) → total f ps ≤ total g ps
 part f g h [] = omega arith
 part f g h (p ∷ ps) = omega (arith, h p, part f g h ps)
 
-only-left : (a c : Bool) (w : ℕ) → only (a && c) w ≤ only a w
-only-left true true w = omega arith
-only-left true false w = omega arith
-only-left false c w = omega arith
+only_left : (a c : Bool) (w : ℕ) → only (a && c) w ≤ only a w
+only_left true true w = omega arith
+only_left true false w = omega arith
+only_left false c w = omega arith
 
-only-right : (a c : Bool) (w : ℕ) → only (a && c) w ≤ only c w
-only-right true c w = omega arith
-only-right false c w = omega arith
+only_right : (a c : Bool) (w : ℕ) → only (a && c) w ≤ only c w
+only_right true c w = omega arith
+only_right false c w = omega arith
 
 module _ (size : ℕ) (ps : List Piece) (k : Reportable size ps) where
-  by-origin-light : (v u : ℕ) → sum (fromOrigin v u) ps ≤ TOP
-  by-origin-light v u = omega (arith, k.light v, part _ (weigh (inVessel v)) (λ p. only-right (eqb p.origin u) (eqb p.holder v) p.weight) ps)
+  by_origin_light : (v u : ℕ) → sum (from_origin v u) ps ≤ TOP
+  by_origin_light v u = omega (arith, k.light v, part _ (weigh (in_vessel v)) (λ p. only_right (eqb p.origin u) (eqb p.holder v) p.weight) ps)
 
-  by-holder-light : (u from to v : ℕ) → sum (bornWithin u from to v) ps ≤ TOP
-  by-holder-light u from to v = omega (arith, k.light v, part _ (weigh (inVessel v)) (λ p. only-left (eqb p.holder v) (born u from to p) p.weight) ps)
+  by_holder_light : (u from to v : ℕ) → sum (born_within u from to v) ps ≤ TOP
+  by_holder_light u from to v = omega (arith, k.light v, part _ (weigh (in_vessel v)) (λ p. only_left (eqb p.holder v) (born u from to p) p.weight) ps)
 
-  pub held-tallied : (v : ℕ) → Tallied (counted (ByOrigin v)) (index_of (ByOrigin v)) size ps
-  held-tallied v = all_map (λ p h. (h, by-origin-light v p.origin)) k.origins
+  pub held_tallied : (v : ℕ) → Tallied (counted (ByOrigin v)) (index_of (ByOrigin v)) size ps
+  held_tallied v = all_map (λ p h. (h, by_origin_light v p.origin)) k.origins
 
-  pub spread-tallied : (u from to : ℕ) → Tallied (counted (ByHolder u from to)) (index_of (ByHolder u from to)) size ps
-  spread-tallied u from to = all_map (λ p h. (h, by-holder-light u from to p.holder)) k.holders
+  pub spread_tallied : (u from to : ℕ) → Tallied (counted (ByHolder u from to)) (index_of (ByHolder u from to)) size ps
+  spread_tallied u from to = all_map (λ p h. (h, by_holder_light u from to p.holder)) k.holders
 
-  pub whole-tallied : Tallied (counted (ByBoth size)) (index_of (ByBoth size)) (size * size) ps
-  whole-tallied = all_both (cells-inside size k.holders k.origins) (all_map (λ p o. rw (tally-square size p.holder p.origin o k.origins) (by-origin-light p.holder p.origin)) k.origins)
+  pub whole_tallied : Tallied (counted (ByBoth size)) (index_of (ByBoth size)) (size * size) ps
+  whole_tallied = all_both (cells_inside size k.holders k.origins) (all_map (λ p o. rw (tally_square size p.holder p.origin o k.origins) (by_origin_light p.holder p.origin)) k.origins)
 
   -- and what they leave
   module _ (r room : List ℕ) where
-    pub held-filled : (v : ℕ) → size ≤ length room → r ≡ onePass size (ByOrigin v) room ps → r ≡ onto (heldRow size v ps) room
-    held-filled v fits e = e ∙ scattered _ _ size room ps fits k.origins
+    pub held_filled : (v : ℕ) → size ≤ length room → r ≡ one_pass size (ByOrigin v) room ps → r ≡ onto (held_row size v ps) room
+    held_filled v fits e = e ∙ scattered _ _ size room ps fits k.origins
 
-    pub spread-filled : (u from to : ℕ) → size ≤ length room → r ≡ onePass size (ByHolder u from to) room ps → r ≡ onto (spreadRow size u from to ps) room
-    spread-filled u from to fits e = e ∙ scattered _ _ size room ps fits k.holders
+    pub spread_filled : (u from to : ℕ) → size ≤ length room → r ≡ one_pass size (ByHolder u from to) room ps → r ≡ onto (spread_row size u from to ps) room
+    spread_filled u from to fits e = e ∙ scattered _ _ size room ps fits k.holders
 
-    pub whole-filled : size * size ≤ length room → r ≡ onePass (size * size) (ByBoth size) room ps → r ≡ onto (rows size 0 size ps) room
-    whole-filled fits e = e ∙ one-pass size room fits k.holders k.origins
+    pub whole_filled : size * size ≤ length room → r ≡ one_pass (size * size) (ByBoth size) room ps → r ≡ onto (rows size 0 size ps) room
+    whole_filled fits e = e ∙ one_pass_lem size room fits k.holders k.origins
 
 -- Rows one behind the other.
-rows_snoc : (size v n : ℕ) (ps : List Piece) → rows size v (suc n) ps ≡ rows size v n ps ++ heldRow size (v + n) ps
+rows_snoc : (size v n : ℕ) (ps : List Piece) → rows size v (suc n) ps ≡ rows size v n ps ++ held_row size (v + n) ps
 unfolding rows
-rows_snoc size v zero ps = rw add-zero (append-nil (heldRow size v ps))
+rows_snoc size v zero ps = rw add-zero (append-nil (held_row size v ps))
 rows_snoc size v (suc n) ps =
     let k : suc v + n ≡ v + suc n = omega arith in
-    ap (λ (l : List ℕ). heldRow size v ps ++ l) (rows_snoc size (suc v) n ps ∙ rw k) ∙ sym (append_assoc (heldRow size v ps) (rows size (suc v) n ps) (heldRow size (v + suc n) ps))
+    ap (λ (l : List ℕ). held_row size v ps ++ l) (rows_snoc size (suc v) n ps ∙ rw k) ∙ sym (append_assoc (held_row size v ps) (rows size (suc v) n ps) (held_row size (v + suc n) ps))
 
 -- where row v of m starts: its number is small, and the row lies in the room
 module _ (v m : ℕ) (h : v < m) where
@@ -105,15 +98,15 @@ module _ (v m : ℕ) (h : v < m) where
   pub row_fits : (r r₀ : List ℕ) → m * m ≤ length r₀ → length r ≡ length r₀ → m ≤ length (take (length r - v * m) (drop (v * m) r))
   row_fits r r₀ room same = let q = square in simp (length-take, length-drop) (omega arith)
 
-  module _ (few : m ≤ mostVessels) where
-    small : v * m < mostVessels * mostVessels
+  module _ (few : m ≤ most_vessels) where
+    small : v * m < most_vessels * most_vessels
     small = omega (arith, square, mul-le-mul few few)
 
-    pub row-start : (w : Width) → T (leb (mostVessels * mostVessels) (2 ^ bits w)) → Fits w (v * m)
-    row-start w = Fits-under w (v * m) (mostVessels * mostVessels) small
+    pub row_start : (w : Width) → T (leb (most_vessels * most_vessels) (2 ^ bits w)) → Fits w (v * m)
+    row_start w = Fits-under w (v * m) (most_vessels * most_vessels) small
 
-    pub row-start-scaled : Fits w64 (v * m * 4)
-    row-start-scaled = record { fits = omega (arith, small) }
+    pub row_start_scaled : Fits w64 (v * m * 4)
+    row_start_scaled = record { fits = omega (arith, small) }
 
 -- the loop over the rows: its start, a turn that lends the part behind the rows to the next row, and its end
 module _ (m : ℕ) (ps : List Piece) (r₀ : List ℕ) where
@@ -122,15 +115,15 @@ module _ (m : ℕ) (ps : List Piece) (r₀ : List ℕ) where
   rows_none = rw (zero-mul m)
 
   pub rows_next : (r ys : List ℕ) (v : ℕ) → v < m → m * m ≤ length r₀ → length r ≡ length r₀ → r ≡ rows m 0 v ps ++ drop (v * m) r₀
-      → ys ≡ onto (heldRow m v ps) (take (length r - v * m) (drop (v * m) r))
+      → ys ≡ onto (held_row m v ps) (take (length r - v * m) (drop (v * m) r))
       → take (v * m) r ++ (ys ++ drop (length r - v * m) (drop (v * m) r)) ≡ rows m 0 (v + 1) ps ++ drop ((v + 1) * m) r₀
   rows_next r ys v h room same e ey =
       let d : List ℕ = drop (v * m) r₀ in
-      let tk : take (v * m) r ≡ rows m 0 v ps = rw e (take_at (rows m 0 v ps) d (v * m) (length-rows m 0 v ps)) in
-      let dr : drop (v * m) r ≡ d = rw e (drop_at (rows m 0 v ps) d (v * m) (length-rows m 0 v ps)) in
+      let tk : take (v * m) r ≡ rows m 0 v ps = rw e (take_at (rows m 0 v ps) d (v * m) (length_rows m 0 v ps)) in
+      let dr : drop (v * m) r ≡ d = rw e (drop_at (rows m 0 v ps) d (v * m) (length_rows m 0 v ps)) in
       let ld : length d ≤ length r - v * m = simp length-drop (omega arith) in
       let z : 0 + v ≡ v = omega arith in
-      simp (ey, tk, dr, length-row, take_all _ d ld, drop_of_length-le d ld, append-nil, add-one, rows_snoc, z, suc-mul, drop-drop, append_assoc)
+      simp (ey, tk, dr, length_row, take_all _ d ld, drop_of_length-le d ld, append-nil, add-one, rows_snoc, z, suc-mul, drop-drop, append_assoc)
 
   pub rows_end : (r : List ℕ) (v : ℕ) → v ≤ m → m ≤ v → r ≡ rows m 0 v ps ++ drop (v * m) r₀ → r ≡ onto (rows m 0 m ps) r₀
-  rows_end r v a b e = let q : v ≡ m = omega arith in rw length-rows (rw q at e)
+  rows_end r v a b e = let q : v ≡ m = omega arith in rw length_rows (rw q at e)

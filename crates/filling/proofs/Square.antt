@@ -1,27 +1,18 @@
 -- The rows of all vessels, one behind the other, are a square: the number of origin u in the row of vessel v is the one at v × size + u. So one pass
 -- over the pieces, each entered at its origin in the row of its holder, fills what the rows are.
 -- Assumes nothing.
-use mathlib.Core.Path.{◌≡◌, refl, sym, ap, ◌∙◌}
-use mathlib.Core.Bool.{Bool, true, false, ◌&&◌}
-use mathlib.Core.List.{List, ◌++◌}
-use Prim.Native.Nat.{ℕ, zero, suc, ◌+◌, ◌*◌, ◌≤◌, ◌<◌}
-use native.Mathlib.Nat.{zero-add, zero-mul, suc-mul, add_comm, mul-le-mul, mul-le-mul_right}
-use native.Mathlib.Omega.{arith}
-use mir.Syntax.{w32, w64}
-use mir.Val.{Fits}
-use lib.Dec.{ltb, eqb}
-use lib.ListN.{length}
-use borrow.Author.Tests.{ltb-true, ltb-false, eqb-true, eqb-false, eq-eqb, ne_eqb}
+use Rattle.std.proofs.Common.{◌≡◌, refl, sym, ap, ◌∙◌, Bool, true, false, ◌&&◌, List, ◌++◌, ℕ, zero, suc, ◌+◌, ◌*◌, ◌≤◌, ◌<◌, zero-add, zero-mul, suc-mul, add_comm, mul-le-mul, mul-le-mul_right, arith, w32, w64, Fits, ltb, eqb, length, ltb-true, ltb-false, eqb-true, eq-eqb, ne_eqb}
+use borrow.Author.Tests.{eqb-false}
 use Rattle.table.specs.declared.Piece.{Piece}
 use Rattle.table.specs.Pieces.{only, sum, All, done, also}
 use Rattle.table.proofs.Pieces.{all_map, all_both}
 use Rattle.refusal.specs.Numbers.{TOP}
 use Rattle.book.specs.Head.{tab}
 use Rattle.book.specs.declared.Report.TheVariants.{Whole}
-use Rattle.book.specs.Reports.{fromOrigin, heldRow, rows, reportRow, onto}
-use Rattle.book.proofs.BalanceLaws.{tab-append, tab-same}
+use Rattle.book.specs.Reports.{from_origin, held_row, rows, report_row, onto}
+use Rattle.book.proofs.BalanceLaws.{tab_append, tab_same}
 use Rattle.filling.specs.declared.Pass.TheVariants.{ByBoth}
-use Rattle.filling.specs.Scatter.{counted, index_of, tally, onePass}
+use Rattle.filling.specs.Scatter.{counted, index_of, tally, one_pass}
 use Rattle.filling.proofs.Scattered.{scattered}
 
 -- of numbers of 32 bits the product fits 64, and so does a number more
@@ -29,11 +20,11 @@ module _ (v m : ℕ) (fv : Fits w32 v) (fm : Fits w32 m) where
   small : v * m ≤ TOP * TOP
   small = let a : v ≤ TOP = omega (arith, fv.fits) in let b : m ≤ TOP = omega (arith, fm.fits) in mul-le-mul a b
 
-  pub product-fits : Fits w64 (v * m)
-  product-fits = record { fits = omega (arith, small) }
+  pub product_fits : Fits w64 (v * m)
+  product_fits = record { fits = omega (arith, small) }
 
-  pub cell-fits : (u : ℕ) → Fits w32 u → Fits w64 (v * m + u)
-  cell-fits u fu = record { fits = omega (arith, small, fu.fits) }
+  pub cell_fits : (u : ℕ) → Fits w32 u → Fits w64 (v * m + u)
+  cell_fits u fu = record { fits = omega (arith, small, fu.fits) }
 
 -- a row ends where the next one starts, or before
 pub row_below : (m v w : ℕ) → v < w → v * m + m ≤ w * m
@@ -41,8 +32,8 @@ row_below m v w h = rw (← suc-mul) (mul-le-mul_right m h)
 
 -- a number of the square tells its row and its place in it
 module _ (m v u w x : ℕ) (hu : u < m) (hx : x < m) where
-  same-cell : v * m + u ≡ w * m + x → (v ≡ w) × (u ≡ x)
-  same-cell e = go (ltb v w) refl (ltb w v) refl
+  same_cell : v * m + u ≡ w * m + x → (v ≡ w) × (u ≡ x)
+  same_cell e = go (ltb v w) refl (ltb w v) refl
     where
       go : (b : Bool) → ltb v w ≡ b → (c : Bool) → ltb w v ≡ c → (v ≡ w) × (u ≡ x)
       go true eb c ec = absurd (omega (arith, row_below m v w (ltb-true v w eb)))
@@ -54,14 +45,14 @@ module _ (m v u w x : ℕ) (hu : u < m) (hx : x < m) where
     where
       go : (b : Bool) → eqb u x ≡ b → (c : Bool) → eqb v w ≡ c → eqb (v * m + u) (w * m + x) ≡ b && c
       go true eb true ec = let k : v ≡ w = eqb-true v w ec in eq-eqb (v * m + u) (w * m + x) (rw k (ap (λ (y : ℕ). w * m + y) (eqb-true u x eb)))
-      go true eb false ec = ne_eqb (v * m + u) (w * m + x) (λ e. eqb-false v w ec (same-cell e).0)
-      go false eb c ec = ne_eqb (v * m + u) (w * m + x) (λ e. eqb-false u x eb (same-cell e).1)
+      go true eb false ec = ne_eqb (v * m + u) (w * m + x) (λ e. eqb-false v w ec (same_cell e).0)
+      go false eb c ec = ne_eqb (v * m + u) (w * m + x) (λ e. eqb-false u x eb (same_cell e).1)
 
 -- what is entered there is the weight of origin u in vessel v
-pub tally-square : (m v u : ℕ) → u < m → {ps : List Piece} → All (λ p. p.origin < m) ps → tally (counted (ByBoth m)) (index_of (ByBoth m)) ps (v * m + u) ≡ sum (fromOrigin v u) ps
-tally-square m v u h done = refl
-tally-square m v u h (also {p = p} g x) =
-    omega (arith, ap (λ (b : Bool). only (b && true) p.weight) (cell m p.holder p.origin v u g h), go (eqb p.origin u && eqb p.holder v), tally-square m v u h x)
+pub tally_square : (m v u : ℕ) → u < m → {ps : List Piece} → All (λ p. p.origin < m) ps → tally (counted (ByBoth m)) (index_of (ByBoth m)) ps (v * m + u) ≡ sum (from_origin v u) ps
+tally_square m v u h done = refl
+tally_square m v u h (also {p = p} g x) =
+    omega (arith, ap (λ (b : Bool). only (b && true) p.weight) (cell m p.holder p.origin v u g h), go (eqb p.origin u && eqb p.holder v), tally_square m v u h x)
   where
     go : (b : Bool) → only (b && true) p.weight ≡ only b p.weight
     go true = refl
@@ -72,22 +63,22 @@ module _ (m : ℕ) (ps : List Piece) (o : All (λ p. p.origin < m) ps) where
   abbrev cells : ℕ → ℕ
   cells = tally (counted (ByBoth m)) (index_of (ByBoth m)) ps
 
-  rows-from : (v n : ℕ) → rows m v n ps ≡ tab cells (v * m) (n * m)
+  rows_from : (v n : ℕ) → rows m v n ps ≡ tab cells (v * m) (n * m)
   unfolding rows tab
-  rows-from v zero = rw zero-mul
-  rows-from v (suc n) =
-      let row : heldRow m v ps ≡ tab cells (v * m) m = tab-same (λ u. sum (fromOrigin v u) ps) cells 0 (v * m) m (λ u h. rw zero-add (sym (tally-square m v u h o))) in
+  rows_from v zero = rw zero-mul
+  rows_from v (suc n) =
+      let row : held_row m v ps ≡ tab cells (v * m) m = tab_same (λ u. sum (from_origin v u) ps) cells 0 (v * m) m (λ u h. rw zero-add (sym (tally_square m v u h o))) in
       let size : suc n * m ≡ m + n * m = suc-mul n m ∙ add_comm (n * m) m in
-      rw (row, size) (ap (λ (l : List ℕ). tab cells (v * m) m ++ l) (rows-from (suc v) n ∙ rw suc-mul) ∙ sym (tab-append cells (v * m) m (n * m)))
+      rw (row, size) (ap (λ (l : List ℕ). tab cells (v * m) m ++ l) (rows_from (suc v) n ∙ rw suc-mul) ∙ sym (tab_append cells (v * m) m (n * m)))
 
-  rows-square : rows m 0 m ps ≡ tab cells 0 (m * m)
-  rows-square = rows-from 0 m ∙ rw zero-mul
+  rows_square : rows m 0 m ps ≡ tab cells 0 (m * m)
+  rows_square = rows_from 0 m ∙ rw zero-mul
 
 -- the cells of a book's pieces lie in the square
-pub cells-inside : (m : ℕ) {ps : List Piece} → All (λ p. p.holder < m) ps → All (λ p. p.origin < m) ps → All (λ p. index_of (ByBoth m) p < m * m) ps
-cells-inside m h o = all_map (λ p (below, inside). omega (arith, row_below m p.holder m below)) (all_both h o)
+pub cells_inside : (m : ℕ) {ps : List Piece} → All (λ p. p.holder < m) ps → All (λ p. p.origin < m) ps → All (λ p. index_of (ByBoth m) p < m * m) ps
+cells_inside m h o = all_map (λ p (below, inside). omega (arith, row_below m p.holder m below)) (all_both h o)
 
 -- ONE PASS: "go over the pieces once and add each where it belongs." Over numbers cleared before, that is the whole report.
-pub one-pass : (m : ℕ) (room : List ℕ) {ps : List Piece} → m * m ≤ length room → All (λ p. p.holder < m) ps → All (λ p. p.origin < m) ps
-    → onePass (m * m) (ByBoth m) room ps ≡ onto (reportRow m ps Whole) room
-one-pass m room {ps} fits h o = scattered _ _ (m * m) room ps fits (cells-inside m h o) ∙ ap (λ (w : List ℕ). onto w room) (sym (rows-square m ps o))
+pub one_pass_lem : (m : ℕ) (room : List ℕ) {ps : List Piece} → m * m ≤ length room → All (λ p. p.holder < m) ps → All (λ p. p.origin < m) ps
+    → one_pass (m * m) (ByBoth m) room ps ≡ onto (report_row m ps Whole) room
+one_pass_lem m room {ps} fits h o = scattered _ _ (m * m) room ps fits (cells_inside m h o) ∙ ap (λ (w : List ℕ). onto w room) (sym (rows_square m ps o))

@@ -6,7 +6,7 @@ use Rattle.std.specs.Prelude.{Bool, true, ◌&&◌, cond, List, [], ◌∷◌, �
 use Rattle.table.specs.declared.Piece.{Piece}
 use Rattle.table.specs.Pieces.{only, total, held, All}
 use Rattle.refusal.specs.Numbers.{TOP}
-use Rattle.book.specs.Head.{mostVessels}
+use Rattle.book.specs.Head.{most_vessels}
 use Rattle.filling.specs.declared.Pass.{Pass}
 use Rattle.filling.specs.declared.Pass.TheVariants.{ByOrigin, ByHolder, ByBoth}
 
@@ -14,12 +14,12 @@ use Rattle.filling.specs.declared.Pass.TheVariants.{ByOrigin, ByHolder, ByBoth}
 abbrev pub cleared : ℕ → List ℕ → List ℕ
 cleared n r = replicate n 0 ++ drop n r
 
-abbrev pub addAt : List ℕ → ℕ → ℕ → List ℕ
-addAt r i w = set r i (get_or r i 0 + w)
+abbrev pub add_at : List ℕ → ℕ → ℕ → List ℕ
+add_at r i w = set r i (get_or r i 0 + w)
 
 -- the piece is entered, if it counts
 abbrev pub entered : (Piece → Bool) → (Piece → ℕ) → List ℕ → Piece → List ℕ
-entered test at r p = cond (test p) (addAt r (at p) p.weight) r
+entered test at r p = cond (test p) (add_at r (at p) p.weight) r
 
 unfoldable pub scatter : (Piece → Bool) → (Piece → ℕ) → List ℕ → List Piece → List ℕ
 scatter test at r [] = r
@@ -55,12 +55,12 @@ index_of (ByHolder u from to) p = p.holder
 index_of (ByBoth row) p = p.holder * row + p.origin
 
 -- what a pass leaves of the room: so many numbers cleared, then the pieces entered
-abbrev pub onePass : ℕ → Pass → List ℕ → List Piece → List ℕ
-onePass size pass room ps = scatter (counted pass) (index_of pass) (cleared size room) ps
+abbrev pub one_pass : ℕ → Pass → List ℕ → List Piece → List ℕ
+one_pass size pass room ps = scatter (counted pass) (index_of pass) (cleared size room) ps
 
 -- what the code knows of the pieces of a book that adds up and has nothing on the scale
 pub record Reportable (size : ℕ) (ps : List Piece) : Type 0 where
-  pub few : size ≤ mostVessels
+  pub few : size ≤ most_vessels
   pub holders : All (λ p. p.holder < size) ps
   pub origins : All (λ p. p.origin < size) ps
   pub light : (v : ℕ) → held v ps ≤ TOP

@@ -6,8 +6,8 @@ ghost use Rattle.std.specs.Prelude.{◌≡◌, ◌≤◌, ◌*◌, length};
 ghost use Rattle.table.specs.Table.{pieces_of};
 ghost use Rattle.refusal.specs.Numbers.{first};
 ghost use Rattle.book.specs.declared.Report.TheVariants.{Whole};
-ghost use Rattle.book.specs.Reports.{heldRow, reportRow, reportChecks, onto};
-ghost use Rattle.filling.specs.Scatter.{cleared, born, counted, index_of, entered, scatter, Enterable, Fillable, Tallied, onePass, Reportable};
+ghost use Rattle.book.specs.Reports.{held_row, report_row, report_checks, onto};
+ghost use Rattle.filling.specs.Scatter.{cleared, born, counted, index_of, entered, scatter, Enterable, Fillable, Tallied, one_pass, Reportable};
 
 use book::Report;
 use table::Piece;
@@ -98,7 +98,7 @@ fn add(table: &[u32], n: usize, pass: Pass, report: &mut [u32])
 // The first numbers of the room: cleared, then filled by a pass.
 fn fill_pass(table: &[u32], n: usize, size: usize, pass: Pass, report: &mut [u32])
     requires { (4 * n ≤ length table.now) × (size ≤ length report.old) × Tallied (counted pass) (index_of pass) size (pieces_of n table.now) }
-    ensures { report.new ≡ onePass size pass report.old (pieces_of n table.now) }
+    ensures { report.new ≡ one_pass size pass report.old (pieces_of n table.now) }
 {
     clear(report, size);
     add(table, n, pass, report);
@@ -107,7 +107,7 @@ fn fill_pass(table: &[u32], n: usize, size: usize, pass: Pass, report: &mut [u32
 // The held report of a vessel, at the start of the room.
 fn fill_held(table: &[u32], n: usize, vessels: u32, vessel: u32, report: &mut [u32])
     requires { (4 * n ≤ length table.now) × (vessels ≤ length report.old) × Reportable vessels (pieces_of n table.now) }
-    ensures { report.new ≡ onto (heldRow vessels vessel (pieces_of n table.now)) report.old }
+    ensures { report.new ≡ onto (held_row vessels vessel (pieces_of n table.now)) report.old }
 {
     fill_pass(table, n, vessels as usize, Pass::ByOrigin(vessel), report);
 }
@@ -115,7 +115,7 @@ fn fill_held(table: &[u32], n: usize, vessels: u32, vessel: u32, report: &mut [u
 // The rows of all vessels, in one pass.
 fn fill_whole(table: &[u32], n: usize, vessels: u32, report: &mut [u32])
     requires { (4 * n ≤ length table.now) × (vessels * vessels ≤ length report.old) × Reportable vessels (pieces_of n table.now) }
-    ensures { report.new ≡ onto (reportRow vessels (pieces_of n table.now) Whole) report.old }
+    ensures { report.new ≡ onto (report_row vessels (pieces_of n table.now) Whole) report.old }
 {
     let row = vessels as usize;
     fill_pass(table, n, row * row, Pass::ByBoth(vessels), report);
@@ -124,7 +124,7 @@ fn fill_whole(table: &[u32], n: usize, vessels: u32, report: &mut [u32])
 // The same, row by row: the part of the room from a vessel's row on is lent to its held report.
 pub fn fill_rows(table: &[u32], n: usize, vessels: u32, report: &mut [u32])
     requires { (4 * n ≤ length table.now) × (vessels * vessels ≤ length report.old) × Reportable vessels (pieces_of n table.now) }
-    ensures { report.new ≡ onto (reportRow vessels (pieces_of n table.now) Whole) report.old }
+    ensures { report.new ≡ onto (report_row vessels (pieces_of n table.now) Whole) report.old }
 {
     let mut v: u32 = 0;
     while v < vessels {
@@ -136,9 +136,9 @@ pub fn fill_rows(table: &[u32], n: usize, vessels: u32, report: &mut [u32])
 
 // What is asked, at the start of room that its checks found long enough.
 pub fn fill(table: &[u32], n: usize, vessels: u32, asked: Report, room: &mut [u32])
-    requires { (4 * n ≤ length table.now) × (first (reportChecks vessels (length room.old) asked) ≡ 0)
+    requires { (4 * n ≤ length table.now) × (first (report_checks vessels (length room.old) asked) ≡ 0)
         × Reportable vessels (pieces_of n table.now) }
-    ensures { room.new ≡ onto (reportRow vessels (pieces_of n table.now) asked) room.old }
+    ensures { room.new ≡ onto (report_row vessels (pieces_of n table.now) asked) room.old }
 {
     match asked {
         Report::Held(vessel) => fill_held(table, n, vessels, vessel, room),

@@ -1,18 +1,12 @@
 -- WHICH CALL SIX NUMBERS ARE, of all numbers: each kind with its arguments in their order, any other kind the whole report; and which number of a call is
 -- an age. A definition that is altered together with code and proofs fails here.
 -- Assumes nothing.
-use mathlib.Core.Path.{◌≡◌, refl}
-use mathlib.Core.Bool.{false}
-use mathlib.Core.List.{List, [], ◌∷◌}
-use Prim.Native.Nat.{ℕ, ◌≤◌}
-use native.Mathlib.Omega.{arith}
-use lib.Dec.{ltb}
-use borrow.Author.Tests.{ne_eqb}
+use Rattle.std.proofs.Common.{◌≡◌, refl, false, List, [], ◌∷◌, ℕ, ◌≤◌, arith, ltb, ne_eqb}
 use Rattle.book.specs.declared.Report.TheVariants.{Held, Spread, Whole}
-use Rattle.book.specs.Transfer.{transferOf}
-use Rattle.book.specs.Scale.{liftOf, tip_of}
+use Rattle.book.specs.Transfer.{transfer_of}
+use Rattle.book.specs.Scale.{lift_of, tip_of}
 use Rattle.book.specs.Calls.{Call, post, lift, tip, ask}
-use Rattle.journal.specs.Carried.{call_in, ageOff}
+use Rattle.journal.specs.Carried.{call_in, age_off}
 
 abbrev numbers : ℕ → ℕ → ℕ → ℕ → ℕ → ℕ → List ℕ
 numbers kind a b c d e = kind ∷ a ∷ b ∷ c ∷ d ∷ e ∷ []
@@ -21,18 +15,18 @@ module _ (a b c d e : ℕ) (room : List ℕ) where
   abbrev call : ℕ → Call
   call kind = call_in (numbers kind a b c d e) room
 
-  pub kinds : (call 0 ≡ post (transferOf a b c d e)) × (call 1 ≡ ask (Held a) room) × (call 2 ≡ ask (Spread a b c) room) × (call 3 ≡ ask Whole room)
-      × (call 4 ≡ lift (liftOf a b c d)) × (call 5 ≡ tip (tip_of a b))
+  pub kinds : (call 0 ≡ post (transfer_of a b c d e)) × (call 1 ≡ ask (Held a) room) × (call 2 ≡ ask (Spread a b c) room) × (call 3 ≡ ask Whole room)
+      × (call 4 ≡ lift (lift_of a b c d)) × (call 5 ≡ tip (tip_of a b))
   unfolding call_in
   kinds = (refl, refl, refl, refl, refl, refl)
 
-  pub other-kinds : (kind : ℕ) → 6 ≤ kind → call kind ≡ ask Whole room
+  pub other_kinds : (kind : ℕ) → 6 ≤ kind → call kind ≡ ask Whole room
   unfolding call_in
-  other-kinds kind h =
+  other_kinds kind h =
       rw (ne_eqb kind 0 (λ z. omega arith), ne_eqb kind 1 (λ z. omega arith), ne_eqb kind 2 (λ z. omega arith), ne_eqb kind 4 (λ z. omega arith), ne_eqb kind 5 (λ z. omega arith))
 
   -- a transfer's fifth argument and a lift's fourth, and no other number of a call
-  pub ages : (ageOff (numbers 0 a b c d e) ≡ ltb 65535 e) × (ageOff (numbers 4 a b c d e) ≡ ltb 65535 d)
-      × ((kind : ℕ) → (kind ≡ 0 → ⊥) → (kind ≡ 4 → ⊥) → ageOff (numbers kind a b c d e) ≡ false)
-  unfolding ageOff
+  pub ages : (age_off (numbers 0 a b c d e) ≡ ltb 65535 e) × (age_off (numbers 4 a b c d e) ≡ ltb 65535 d)
+      × ((kind : ℕ) → (kind ≡ 0 → ⊥) → (kind ≡ 4 → ⊥) → age_off (numbers kind a b c d e) ≡ false)
+  unfolding age_off
   ages = (refl, refl, λ kind nt nl. rw (ne_eqb kind 0 nt, ne_eqb kind 4 nl))

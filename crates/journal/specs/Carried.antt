@@ -7,55 +7,55 @@ use Rattle.std.specs.Prelude.{◌≡◌, Bool, false, cond, ◌||◌, List, [], 
 use Rattle.refusal.specs.Numbers.{◌if◌, first}
 use Rattle.book.specs.declared.Head.{Head}
 use Rattle.book.specs.declared.Opened.{Opened}
-use Rattle.book.specs.Head.{notOpened, openChecks, opening}
+use Rattle.book.specs.Head.{not_opened, open_checks, opening}
 use Rattle.book.specs.declared.Report.{Report}
 use Rattle.book.specs.declared.Report.TheVariants.{Held, Spread, Whole}
 use Rattle.book.specs.declared.Reported.{Reported}
 use Rattle.book.specs.declared.Transfer.{Transfer}
 use Rattle.book.specs.declared.Lift.{Lift}
 use Rattle.book.specs.declared.Tip.{Tip}
-use Rattle.book.specs.Transfer.{mostAge, transferOf}
-use Rattle.book.specs.Scale.{liftOf, tip_of}
+use Rattle.book.specs.Transfer.{most_age, transfer_of}
+use Rattle.book.specs.Scale.{lift_of, tip_of}
 use Rattle.book.specs.Calls.{Call, post, lift, tip, ask}
-use Rattle.book.specs.Memory.{Outcome, callOn, reported}
-use Rattle.book.specs.Lists.{callsOn, Demand3}
+use Rattle.book.specs.Memory.{Outcome, call_on, reported}
+use Rattle.book.specs.Lists.{calls_on, Demand3}
 
-abbrev pub callSize : ℕ
-callSize = 6
+abbrev pub call_size : ℕ
+call_size = 6
 
 -- the report of a kind, with its arguments
-abbrev pub reportOf : ℕ → ℕ → ℕ → ℕ → Report
-reportOf kind a b c = cond (eqb kind 1) (Held a) (cond (eqb kind 2) (Spread a b c) Whole)
+abbrev pub report_of : ℕ → ℕ → ℕ → ℕ → Report
+report_of kind a b c = cond (eqb kind 1) (Held a) (cond (eqb kind 2) (Spread a b c) Whole)
 
 -- the transfer in the first six numbers, where they are one, the lift, the tip and the report
-abbrev pub transferIn : List ℕ → Transfer
-transferIn l = transferOf (get_or l 1 0) (get_or l 2 0) (get_or l 3 0) (get_or l 4 0) (get_or l 5 0)
+abbrev pub transfer_in : List ℕ → Transfer
+transfer_in l = transfer_of (get_or l 1 0) (get_or l 2 0) (get_or l 3 0) (get_or l 4 0) (get_or l 5 0)
 
-abbrev pub liftIn : List ℕ → Lift
-liftIn l = liftOf (get_or l 1 0) (get_or l 2 0) (get_or l 3 0) (get_or l 4 0)
+abbrev pub lift_in : List ℕ → Lift
+lift_in l = lift_of (get_or l 1 0) (get_or l 2 0) (get_or l 3 0) (get_or l 4 0)
 
 abbrev pub tip_in : List ℕ → Tip
 tip_in l = tip_of (get_or l 1 0) (get_or l 2 0)
 
-abbrev pub reportIn : List ℕ → Report
-reportIn l = reportOf (get_or l 0 0) (get_or l 1 0) (get_or l 2 0) (get_or l 3 0)
+abbrev pub report_in : List ℕ → Report
+report_in l = report_of (get_or l 0 0) (get_or l 1 0) (get_or l 2 0) (get_or l 3 0)
 
 -- the call in the first six numbers, with the room that it is lent
 unfoldable pub call_in : List ℕ → List ℕ → Call
 call_in l room =
     let kind = get_or l 0 0 in
-    cond (eqb kind 0) (post (transferIn l)) (cond (eqb kind 4) (lift (liftIn l)) (cond (eqb kind 5) (tip (tip_in l)) (ask (reportIn l) room)))
+    cond (eqb kind 0) (post (transfer_in l)) (cond (eqb kind 4) (lift (lift_in l)) (cond (eqb kind 5) (tip (tip_in l)) (ask (report_in l) room)))
 
 -- the age in the first six numbers, 0 where the call has none; whether it is above the largest, and whether one of the first n calls has such an age
-abbrev pub ageIn : List ℕ → ℕ
-ageIn l = let kind = get_or l 0 0 in cond (eqb kind 0) (get_or l 5 0) (cond (eqb kind 4) (get_or l 4 0) 0)
+abbrev pub age_in : List ℕ → ℕ
+age_in l = let kind = get_or l 0 0 in cond (eqb kind 0) (get_or l 5 0) (cond (eqb kind 4) (get_or l 4 0) 0)
 
-unfoldable pub ageOff : List ℕ → Bool
-ageOff l = ltb mostAge (ageIn l)
+unfoldable pub age_off : List ℕ → Bool
+age_off l = ltb most_age (age_in l)
 
-unfoldable pub agesOff : ℕ → List ℕ → Bool
-agesOff zero l = false
-agesOff (suc n) l = ageOff l || agesOff n (drop callSize l)
+unfoldable pub ages_off : ℕ → List ℕ → Bool
+ages_off zero l = false
+ages_off (suc n) l = age_off l || ages_off n (drop call_size l)
 
 -- the room after a call: only a report has some to write to
 abbrev pub room_left : Call → Outcome → List ℕ → List ℕ
@@ -66,14 +66,14 @@ room_left (ask q r) o room = o.room
 
 -- What one call that writes to no room promises: its number and the next head, and the table after it.
 pub record Made (h : Head) (c : Call) (t t' : List ℕ) (z : Reported) : Type 0 where
-  pub answer : z ≡ reported (callOn h t c)
-  pub table : t' ≡ (callOn h t c).table
+  pub answer : z ≡ reported (call_on h t c)
+  pub table : t' ≡ (call_on h t c).table
 
 -- What any call promises: its number and the next head, and table and room after it.
 pub record Makes (h : Head) (c : Call) (t r t' r' : List ℕ) (z : Reported) : Type 0 where
-  pub answer : z ≡ reported (callOn h t c)
-  pub table : t' ≡ (callOn h t c).table
-  pub room : r' ≡ room_left c (callOn h t c) r
+  pub answer : z ≡ reported (call_on h t c)
+  pub table : t' ≡ (call_on h t c).table
+  pub room : r' ≡ room_left c (call_on h t c) r
 
 -- What is left after n calls, and the number of each.
 pub record Carried : Type 0 where
@@ -89,16 +89,16 @@ unfoldable pub carried : ℕ → List ℕ → Head → List ℕ → List ℕ →
 carried zero l h t room = record { numbers = []; head = h; table = t; room = room }
 carried (suc n) l h t room =
     let c = call_in l room in
-    let o = callOn h t c in
-    numbered o.number (carried n (drop callSize l) o.head o.table (room_left c o room))
+    let o = call_on h t c in
+    numbered o.number (carried n (drop call_size l) o.head o.table (room_left c o room))
 
 -- the calls themselves, each with the room as it is lent then
-unfoldable pub callsIn : ℕ → List ℕ → Head → List ℕ → List ℕ → List Call
-callsIn zero l h t room = []
-callsIn (suc n) l h t room =
+unfoldable pub calls_in : ℕ → List ℕ → Head → List ℕ → List ℕ → List Call
+calls_in zero l h t room = []
+calls_in (suc n) l h t room =
     let c = call_in l room in
-    let o = callOn h t c in
-    c ∷ callsIn n (drop callSize l) o.head o.table (room_left c o room)
+    let o = call_on h t c in
+    c ∷ calls_in n (drop call_size l) o.head o.table (room_left c o room)
 
 -- What n calls in turn promise: the head, and table, answers and room after them.
 pub record MakesAll (n : ℕ) (calls : List ℕ) (h : Head) (t a r t' a' r' : List ℕ) (h' : Head) : Type 0 where
@@ -108,24 +108,24 @@ pub record MakesAll (n : ℕ) (calls : List ℕ) (h : Head) (t a r t' a' r' : Li
   pub room : r' ≡ (carried n calls h t r).room
 
 -- how many calls there are numbers and answers for
-abbrev pub countCalls : List ℕ → List ℕ → ℕ
-countCalls calls answers = min (length calls / callSize) (length answers)
+abbrev pub count_calls : List ℕ → List ℕ → ℕ
+count_calls calls answers = min (length calls / call_size) (length answers)
 
 -- the checks of carrying out a list: those of opening, then 18
-unfoldable pub carryNumber : ℕ → ℕ → List ℕ → List ℕ → ℕ
-carryNumber rule size calls answers = first (openChecks rule size ++ (18 if agesOff (countCalls calls answers) calls) ∷ [])
+unfoldable pub carry_number : ℕ → ℕ → List ℕ → List ℕ → ℕ
+carry_number rule size calls answers = first (open_checks rule size ++ (18 if ages_off (count_calls calls answers) calls) ∷ [])
 
 -- What carrying out a list of calls promises: with the rule and V that were given, the numbers of the calls, the four lent slices before, and the
 -- answer and the slices after.
 pub record CarriesOut (rule size : ℕ) (calls t answers room : List ℕ) (r : Opened) (t' answers' room' : List ℕ) : Type 0 where
   -- a refused list leaves all as it was
-  pub refused : (carryNumber rule size calls answers ≡ 0 → ⊥) → (r ≡ notOpened (carryNumber rule size calls answers)) × (t' ≡ t) × (answers' ≡ answers) × (room' ≡ room)
+  pub refused : (carry_number rule size calls answers ≡ 0 → ⊥) → (r ≡ not_opened (carry_number rule size calls answers)) × (t' ≡ t) × (answers' ≡ answers) × (room' ≡ room)
   -- else the calls are made on a fresh book
-  pub done : carryNumber rule size calls answers ≡ 0
-      → let k = carried (countCalls calls answers) calls (opening rule size).head t room in
-      (r ≡ record { number = 0; head = k.head }) × (t' ≡ k.table) × (answers' ≡ k.numbers ++ drop (countCalls calls answers) answers) × (room' ≡ k.room)
+  pub done : carry_number rule size calls answers ≡ 0
+      → let k = carried (count_calls calls answers) calls (opening rule size).head t room in
+      (r ≡ record { number = 0; head = k.head }) × (t' ≡ k.table) × (answers' ≡ k.numbers ++ drop (count_calls calls answers) answers) × (room' ≡ k.room)
   -- and demand 3 holds of what was left
-  pub demand : carryNumber rule size calls answers ≡ 0
-      → let cs = callsIn (countCalls calls answers) calls (opening rule size).head t room in
-      let j = callsOn (opening rule size).head t cs in
+  pub demand : carry_number rule size calls answers ≡ 0
+      → let cs = calls_in (count_calls calls answers) calls (opening rule size).head t room in
+      let j = calls_on (opening rule size).head t cs in
       (r.head ≡ j.head) × (t' ≡ j.table) × Demand3 rule size t cs j

@@ -2,9 +2,9 @@
 #![tactic(auto)]
 
 ghost use Rattle.std.specs.Prelude.{◌≡◌, false, ◌≤◌, ◌<◌, ◌+◌, ◌*◌, min, length, get_or, drop};
-ghost use Rattle.book.specs.Transfer.{mostAge};
+ghost use Rattle.book.specs.Transfer.{most_age};
 ghost use Rattle.book.specs.Calls.{post, lift, tip};
-ghost use Rattle.journal.specs.Carried.{callSize, reportOf, transferIn, liftIn, tip_in, reportIn, call_in, ageIn, ageOff, agesOff, Made, Makes, MakesAll, CarriesOut};
+ghost use Rattle.journal.specs.Carried.{call_size, report_of, transfer_in, lift_in, tip_in, report_in, call_in, age_in, age_off, ages_off, Made, Makes, MakesAll, CarriesOut};
 
 use book::{Head, Lift, MOST_AGE, Opened, Report, Reported, Tip, Transfer};
 use ledger::opening;
@@ -24,7 +24,7 @@ const TIP: u32 = 5;
 
 // The report of a kind.
 fn report_of(kind: u32, a: u32, b: u32, c: u32) -> Report
-    ensures { result ≡ reportOf kind a b c }
+    ensures { result ≡ report_of kind a b c }
 {
     if kind == HELD {
         return Report::Held(a);
@@ -37,7 +37,7 @@ fn report_of(kind: u32, a: u32, b: u32, c: u32) -> Report
 
 // Number k of the six from `at` on.
 fn number_at(calls: &[u32], at: usize, k: usize) -> u32
-    requires { (at + callSize ≤ length calls.now) × (k < callSize) }
+    requires { (at + call_size ≤ length calls.now) × (k < call_size) }
     ensures { result ≡ get_or (drop at calls.now) k 0 }
 {
     calls[at + k]
@@ -45,8 +45,8 @@ fn number_at(calls: &[u32], at: usize, k: usize) -> u32
 
 // The transfer in the six numbers from `at` on.
 fn transfer_at(calls: &[u32], at: usize) -> Transfer
-    requires { (at + callSize ≤ length calls.now) × (get_or (drop at calls.now) 5 0 ≤ mostAge) }
-    ensures { result ≡ transferIn (drop at calls.now) }
+    requires { (at + call_size ≤ length calls.now) × (get_or (drop at calls.now) 5 0 ≤ most_age) }
+    ensures { result ≡ transfer_in (drop at calls.now) }
 {
     Transfer {
         source: number_at(calls, at, 1),
@@ -59,8 +59,8 @@ fn transfer_at(calls: &[u32], at: usize) -> Transfer
 
 // The lift in the six numbers from `at` on.
 fn lift_at(calls: &[u32], at: usize) -> Lift
-    requires { (at + callSize ≤ length calls.now) × (get_or (drop at calls.now) 4 0 ≤ mostAge) }
-    ensures { result ≡ liftIn (drop at calls.now) }
+    requires { (at + call_size ≤ length calls.now) × (get_or (drop at calls.now) 4 0 ≤ most_age) }
+    ensures { result ≡ lift_in (drop at calls.now) }
 {
     Lift {
         source: number_at(calls, at, 1),
@@ -72,7 +72,7 @@ fn lift_at(calls: &[u32], at: usize) -> Lift
 
 // The tip in the six numbers from `at` on.
 fn tip_at(calls: &[u32], at: usize) -> Tip
-    requires { at + callSize ≤ length calls.now }
+    requires { at + call_size ≤ length calls.now }
     ensures { result ≡ tip_in (drop at calls.now) }
 {
     Tip {
@@ -83,8 +83,8 @@ fn tip_at(calls: &[u32], at: usize) -> Tip
 
 // The report in the six numbers from `at` on.
 fn report_at(calls: &[u32], at: usize) -> Report
-    requires { at + callSize ≤ length calls.now }
-    ensures { result ≡ reportIn (drop at calls.now) }
+    requires { at + call_size ≤ length calls.now }
+    ensures { result ≡ report_in (drop at calls.now) }
 {
     report_of(
         number_at(calls, at, 0),
@@ -96,8 +96,8 @@ fn report_at(calls: &[u32], at: usize) -> Report
 
 // That transfer is made.
 fn make_transfer(head: Head, table: &mut [u32], calls: &[u32], at: usize) -> Reported
-    requires { (at + callSize ≤ length calls.now) × (get_or (drop at calls.now) 5 0 ≤ mostAge) }
-    ensures { Made head (post (transferIn (drop at calls.now))) table.old table.new result }
+    requires { (at + call_size ≤ length calls.now) × (get_or (drop at calls.now) 5 0 ≤ most_age) }
+    ensures { Made head (post (transfer_in (drop at calls.now))) table.old table.new result }
 {
     let x = transfer_at(calls, at);
     let r = posting::transfer(head, table, x);
@@ -110,8 +110,8 @@ fn make_transfer(head: Head, table: &mut [u32], calls: &[u32], at: usize) -> Rep
 
 // That lift is made.
 fn make_lift(head: Head, table: &mut [u32], calls: &[u32], at: usize) -> Reported
-    requires { (at + callSize ≤ length calls.now) × (get_or (drop at calls.now) 4 0 ≤ mostAge) }
-    ensures { Made head (lift (liftIn (drop at calls.now))) table.old table.new result }
+    requires { (at + call_size ≤ length calls.now) × (get_or (drop at calls.now) 4 0 ≤ most_age) }
+    ensures { Made head (lift (lift_in (drop at calls.now))) table.old table.new result }
 {
     let x = lift_at(calls, at);
     let r = posting::lift(head, table, x);
@@ -124,7 +124,7 @@ fn make_lift(head: Head, table: &mut [u32], calls: &[u32], at: usize) -> Reporte
 
 // That tip is made.
 fn make_tip(head: Head, table: &mut [u32], calls: &[u32], at: usize) -> Reported
-    requires { at + callSize ≤ length calls.now }
+    requires { at + call_size ≤ length calls.now }
     ensures { Made head (tip (tip_in (drop at calls.now))) table.old table.new result }
 {
     let y = tip_at(calls, at);
@@ -138,7 +138,7 @@ fn make_tip(head: Head, table: &mut [u32], calls: &[u32], at: usize) -> Reported
 
 // The call in the six numbers from `at` on.
 fn call_at(head: Head, table: &mut [u32], calls: &[u32], at: usize, room: &mut [u32]) -> Reported
-    requires { (at + callSize ≤ length calls.now) × (ageOff (drop at calls.now) ≡ false) }
+    requires { (at + call_size ≤ length calls.now) × (age_off (drop at calls.now) ≡ false) }
     ensures { Makes head (call_in (drop at calls.now) room.old)
         table.old room.old table.new room.new result }
 {
@@ -158,8 +158,8 @@ fn call_at(head: Head, table: &mut [u32], calls: &[u32], at: usize, room: &mut [
 
 // The age in the six numbers from `at` on, 0 where the call has none.
 fn age_at(calls: &[u32], at: usize) -> u32
-    requires { at + callSize ≤ length calls.now }
-    ensures { result ≡ ageIn (drop at calls.now) }
+    requires { at + call_size ≤ length calls.now }
+    ensures { result ≡ age_in (drop at calls.now) }
 {
     let kind = number_at(calls, at, 0);
     if kind == TRANSFER {
@@ -173,16 +173,16 @@ fn age_at(calls: &[u32], at: usize) -> u32
 
 // Whether that age is no number of 16 bits.
 fn age_off(calls: &[u32], at: usize) -> bool
-    requires { at + callSize ≤ length calls.now }
-    ensures { result ≡ ageOff (drop at calls.now) }
+    requires { at + call_size ≤ length calls.now }
+    ensures { result ≡ age_off (drop at calls.now) }
 {
     age_at(calls, at) > MOST_AGE
 }
 
 // Whether one of the first n calls has such an age.
 fn ages_off(n: usize, calls: &[u32]) -> bool
-    requires { callSize * n ≤ length calls.now }
-    ensures { result ≡ agesOff n calls.now }
+    requires { call_size * n ≤ length calls.now }
+    ensures { result ≡ ages_off n calls.now }
 {
     let mut i: usize = 0;
     while i < n {
@@ -203,7 +203,7 @@ fn call_all(
     answers: &mut [u32],
     room: &mut [u32],
 ) -> Head
-    requires { (callSize * n ≤ length calls.now) × (n ≤ length answers.old) × (agesOff n calls.now ≡ false) }
+    requires { (call_size * n ≤ length calls.now) × (n ≤ length answers.old) × (ages_off n calls.now ≡ false) }
     ensures { MakesAll n calls.now fresh table.old answers.old room.old
         table.new answers.new room.new result }
 {

@@ -1,158 +1,150 @@
 -- Drawing every piece's weight from its holder's balance, with nothing short and nothing left over, is that all pieces fit and the
 -- balances are their sums: each way by induction over the pieces.
 -- Assumes nothing.
-use mathlib.Core.Path.{◌≡◌, refl, sym, ap, ◌∙◌}
-use mathlib.Core.Bool.{Bool, true, false, ◌&&◌}
-use mathlib.Core.List.{List, [], ◌∷◌, ◌++◌}
-use Prim.Native.Nat.{ℕ, suc, ◌+◌, ◌-◌, ◌≤◌, ◌<◌}
-use native.Mathlib.Nat.{zero-add}
-use native.Mathlib.Numerals.{add-one}
-use native.Mathlib.Omega.{arith}
-use lib.Dec.{leb, eqb}
-use lib.ListN.{length, get_or, set, take, drop, length-set, length-append, length-drop, drop_of_length-le}
-use lib.Seq.{take-length, drop-cons, get_or-set_same, get_or-set_other, set_at, paste-suc}
-use borrow.Author.Tests.{le-leb, leb-true, lt-leb, eq-eqb, eqb-true, eqb-false}
+use Rattle.std.proofs.Common.{◌≡◌, refl, sym, ap, ◌∙◌, Bool, true, false, ◌&&◌, List, [], ◌∷◌, ◌++◌, ℕ, suc, ◌+◌, ◌-◌, ◌≤◌, ◌<◌, zero-add, add-one, arith, leb, eqb, length, get_or, set, take, drop, length-set, length-append, length-drop, drop_of_length-le, drop-cons, get_or-set_same, get_or-set_other, le-leb, leb-true, eq-eqb, eqb-true}
+use lib.Seq.{take-length, set_at, paste-suc}
+use borrow.Author.Tests.{lt-leb, eqb-false}
 use Rattle.table.specs.declared.Piece.{Piece}
 use Rattle.table.specs.Pieces.{no_piece, held, All, done, also}
 use Rattle.table.specs.Table.{pieces_of, places_of}
 use Rattle.table.proofs.Pieces.{all_map}
-use Rattle.table.proofs.Table.{length-pieces}
+use Rattle.table.proofs.Table.{length_pieces}
 use Rattle.book.specs.declared.Head.{Head}
-use Rattle.book.specs.Head.{lastRule, mostVessels, theScale, mostHolders, balancesOf, fits, all_of, every, same, allZero, balanced, addsUp}
+use Rattle.book.specs.Head.{last_rule, most_vessels, the_scale, most_holders, balances_of, fits, all_of, every, same, all_zero, balanced, adds_up}
 use Rattle.ledger.specs.Audit.{covers, drawn, drained}
-use Rattle.book.proofs.HolderLaws.{holder-bound}
+use Rattle.book.proofs.HolderLaws.{holder_bound}
 use Rattle.book.proofs.Sound.{SoundPiece}
-use Rattle.book.proofs.HeadLaws.{both, zero-at, at_zero, same_test, sound-fit, all_fit, fit-sound, all_sound, same_refl, same-eq}
-use Rattle.book.proofs.BalanceLaws.{Holders, Matches, matches-balances, balances-match}
+use Rattle.book.proofs.HeadLaws.{both, zero_at, at_zero, same_test, sound_fit, all_fit, fit_sound, all_sound, same_refl, same_eq}
+use Rattle.book.proofs.BalanceLaws.{Holders, Matches, matches_balances, balances_match}
 
 -- what is left of the balances after p, at v
-module _ (rest : List ℕ) (p : Piece) (ps : List Piece) (small : p.holder < mostHolders) where
+module _ (rest : List ℕ) (p : Piece) (ps : List Piece) (small : p.holder < most_holders) where
   there : (l : List ℕ) {v : ℕ} → p.holder ≡ v → get_or l p.holder 0 ≡ get_or l v 0
   there l q = ap (λ (v : ℕ). get_or l v 0) q
 
   at_holder : p.holder < length rest → get_or (drawn rest p) p.holder 0 ≡ get_or rest p.holder 0 - p.weight
   at_holder h = get_or-set_same rest p.holder (get_or rest p.holder 0 - p.weight) 0 h
 
-  left-matches : p.weight ≤ get_or rest p.holder 0 → length rest ≡ mostHolders → Matches (drawn rest p) ps → Matches rest (p ∷ ps)
-  left-matches w long m = record { long = long; each = λ v h. go v h (eqb p.holder v) refl }
+  left_matches : p.weight ≤ get_or rest p.holder 0 → length rest ≡ most_holders → Matches (drawn rest p) ps → Matches rest (p ∷ ps)
+  left_matches w long m = record { long = long; each = λ v h. go v h (eqb p.holder v) refl }
     where
-      go : (v : ℕ) → v < mostHolders → (t : Bool) → eqb p.holder v ≡ t → get_or rest v 0 ≡ held v (p ∷ ps)
+      go : (v : ℕ) → v < most_holders → (t : Bool) → eqb p.holder v ≡ t → get_or rest v 0 ≡ held v (p ∷ ps)
       go v h true e =
           let q : p.holder ≡ v = eqb-true _ _ e in
           rw e (omega (arith, m.each v h, at_holder (rw long small), there rest q, there (drawn rest p) q))
       go v h false e =
           rw e (omega (arith, m.each v h, get_or-set_other rest p.holder v (get_or rest p.holder 0 - p.weight) 0 (λ z. eqb-false _ _ e (sym z))))
 
-  drawn-matches : Matches rest (p ∷ ps) → Matches (drawn rest p) ps
-  drawn-matches m = record { long = length-set rest p.holder _ ∙ m.long; each = λ v h. go v h (eqb p.holder v) refl (m.each v h) }
+  drawn_matches : Matches rest (p ∷ ps) → Matches (drawn rest p) ps
+  drawn_matches m = record { long = length-set rest p.holder _ ∙ m.long; each = λ v h. go v h (eqb p.holder v) refl (m.each v h) }
     where
-      go : (v : ℕ) → v < mostHolders → (t : Bool) → eqb p.holder v ≡ t → get_or rest v 0 ≡ held v (p ∷ ps) → get_or (drawn rest p) v 0 ≡ held v ps
+      go : (v : ℕ) → v < most_holders → (t : Bool) → eqb p.holder v ≡ t → get_or rest v 0 ≡ held v (p ∷ ps) → get_or (drawn rest p) v 0 ≡ held v ps
       go v h true e k =
           let q : p.holder ≡ v = eqb-true _ _ e in
           omega (arith, rw e at k, at_holder (rw m.long small), there rest q, there (drawn rest p) q)
       go v h false e k = get_or-set_other rest p.holder v _ 0 (λ z. eqb-false _ _ e (sym z)) ∙ omega (arith, rw e at k)
 
-module _ (size last : ℕ) (small : size ≤ mostVessels) where
-  drained-matches : (ps : List Piece) (rest : List ℕ) → length rest ≡ mostHolders → drained size last rest ps ≡ true → All (SoundPiece size last) ps × Matches rest ps
+module _ (size last : ℕ) (small : size ≤ most_vessels) where
+  drained_matches : (ps : List Piece) (rest : List ℕ) → length rest ≡ most_holders → drained size last rest ps ≡ true → All (SoundPiece size last) ps × Matches rest ps
   unfolding drained
-  drained-matches [] rest long e = (done, record { long = long; each = λ v h. zero-at rest e v (rw long h) })
-  drained-matches (p ∷ ps) rest long e =
+  drained_matches [] rest long e = (done, record { long = long; each = λ v h. zero_at rest e v (rw long h) })
+  drained_matches (p ∷ ps) rest long e =
       let u = both (covers size last rest p) (drained size last (drawn rest p) ps) e in
       let k = both (fits size last p) (leb p.weight (get_or rest p.holder 0)) u.0 in
-      let f = fit-sound size last p k.0 in
-      let i = drained-matches ps (drawn rest p) (length-set rest p.holder _ ∙ long) u.1 in
-      (also f i.0, left-matches rest p ps (holder-bound size _ f.holder_in small) (leb-true _ _ k.1) long i.1)
+      let f = fit_sound size last p k.0 in
+      let i = drained_matches ps (drawn rest p) (length-set rest p.holder _ ∙ long) u.1 in
+      (also f i.0, left_matches rest p ps (holder_bound size _ f.holder_in small) (leb-true _ _ k.1) long i.1)
 
-  matches-drained : (ps : List Piece) (rest : List ℕ) → All (SoundPiece size last) ps → Matches rest ps → drained size last rest ps ≡ true
+  matches_drained : (ps : List Piece) (rest : List ℕ) → All (SoundPiece size last) ps → Matches rest ps → drained size last rest ps ≡ true
   unfolding drained
-  matches-drained [] rest done m = at_zero rest (λ v h. m.each v (rw m.long at h))
-  matches-drained (p ∷ ps) rest (also f x) m =
-      let h : p.holder < mostHolders = holder-bound size _ f.holder_in small in
+  matches_drained [] rest done m = at_zero rest (λ v h. m.each v (rw m.long at h))
+  matches_drained (p ∷ ps) rest (also f x) m =
+      let h : p.holder < most_holders = holder_bound size _ f.holder_in small in
       let w : p.weight ≤ get_or rest p.holder 0 = rw (m.each p.holder h, eq-eqb p.holder p.holder refl) (omega arith) in
-      rw (sound-fit size last p f, le-leb _ _ w) (matches-drained ps (drawn rest p) x (drawn-matches rest p ps h m))
+      rw (sound_fit size last p f, le-leb _ _ w) (matches_drained ps (drawn rest p) x (drawn_matches rest p ps h m))
 
   holders : {ps : List Piece} → All (SoundPiece size last) ps → Holders size ps
   holders x = all_map (λ p f. f.holder_in) x
 
-  -- one pass finds what the last three clauses of `addsUp` say
-  pub drained-is : (ps : List Piece) (l : List ℕ) (w : ℕ) → length l ≡ mostVessels
-      → drained size last (l ++ (w ∷ [])) ps ≡ (every (fits size last) ps && (same l (balancesOf size ps) && eqb w (held theScale ps)))
-  drained-is ps l w long = same_test _ _ there back
+  -- one pass finds what the last three clauses of `adds_up` say
+  pub drained_is : (ps : List Piece) (l : List ℕ) (w : ℕ) → length l ≡ most_vessels
+      → drained size last (l ++ (w ∷ [])) ps ≡ (every (fits size last) ps && (same l (balances_of size ps) && eqb w (held the_scale ps)))
+  drained_is ps l w long = same_test _ _ there back
     where
-      there : drained size last (l ++ (w ∷ [])) ps ≡ true → (every (fits size last) ps && (same l (balancesOf size ps) && eqb w (held theScale ps))) ≡ true
+      there : drained size last (l ++ (w ∷ [])) ps ≡ true → (every (fits size last) ps && (same l (balances_of size ps) && eqb w (held the_scale ps))) ≡ true
       there e =
-          let d = drained-matches ps (l ++ (w ∷ [])) (simp length-append (omega (arith, long))) e in
-          let k = matches-balances size l w ps (holders d.0) long d.1 in
+          let d = drained_matches ps (l ++ (w ∷ [])) (simp length-append (omega (arith, long))) e in
+          let k = matches_balances size l w ps (holders d.0) long d.1 in
           rw (all_fit size last d.0, ← k.0, same_refl l, eq-eqb _ _ k.1)
 
-      back : (every (fits size last) ps && (same l (balancesOf size ps) && eqb w (held theScale ps))) ≡ true → drained size last (l ++ (w ∷ [])) ps ≡ true
+      back : (every (fits size last) ps && (same l (balances_of size ps) && eqb w (held the_scale ps))) ≡ true → drained size last (l ++ (w ∷ [])) ps ≡ true
       back e =
           let u = both (every (fits size last) ps) _ e in
-          let k = both (same l (balancesOf size ps)) (eqb w (held theScale ps)) u.1 in
+          let k = both (same l (balances_of size ps)) (eqb w (held the_scale ps)) u.1 in
           let x = all_sound size last ps u.0 in
-          matches-drained ps (l ++ (w ∷ [])) x (balances-match size l w ps (holders x) (same-eq l (balancesOf size ps) k.0) (eqb-true _ _ k.1))
+          matches_drained ps (l ++ (w ∷ [])) x (balances_match size l w ps (holders x) (same_eq l (balances_of size ps) k.0) (eqb-true _ _ k.1))
 
 -- The loop, by what is left: a turn, a stop and the end.
 module _ (size last n i : ℕ) (t rest : List ℕ) (z : Bool) (e : drained size last rest (drop i (pieces_of n t)) ≡ z) where
   module _ (p : Piece) (b : Bool) (h : i < n) (ep : p ≡ get_or (pieces_of n t) i no_piece) (eb : b ≡ covers size last rest p) where
     here : (covers size last rest p && drained size last (drawn rest p) (drop (suc i) (pieces_of n t))) ≡ z
     unfolding drained
-    here = rw ep (rw (drop-cons (pieces_of n t) i no_piece (rw length-pieces h)) at e)
+    here = rw ep (rw (drop-cons (pieces_of n t) i no_piece (rw length_pieces h)) at e)
 
-    pub drain-next : b ≡ true → drained size last (drawn rest p) (drop (i + 1) (pieces_of n t)) ≡ z
-    drain-next q = rw add-one (rw (← eb, q) at here)
+    pub drain_next : b ≡ true → drained size last (drawn rest p) (drop (i + 1) (pieces_of n t)) ≡ z
+    drain_next q = rw add-one (rw (← eb, q) at here)
 
-    pub drain-stop : b ≡ false → false ≡ z
-    drain-stop q = rw (← eb, q) at here
+    pub drain_stop : b ≡ false → false ≡ z
+    drain_stop q = rw (← eb, q) at here
 
-  pub drain-end : (b : Bool) → n ≤ i → b ≡ allZero rest → b ≡ z
+  pub drain_end : (b : Bool) → n ≤ i → b ≡ all_zero rest → b ≡ z
   unfolding drained
-  drain-end b h eb = eb ∙ (rw (drop_of_length-le (pieces_of n t) {i = i} (rw length-pieces h)) at e)
+  drain_end b h eb = eb ∙ (rw (drop_of_length-le (pieces_of n t) {i = i} (rw length_pieces h)) at e)
 
 -- a piece that is covered
 module _ (size last : ℕ) (rest : List ℕ) (p : Piece) (b : Bool) (eb : b ≡ covers size last rest p) (q : b ≡ true) where
   tests : (fits size last p ≡ true) × (leb p.weight (get_or rest p.holder 0) ≡ true)
   tests = both (fits size last p) (leb p.weight (get_or rest p.holder 0)) (sym eb ∙ q)
 
-  pub covered-holder : size ≤ mostVessels → p.holder < mostHolders
-  covered-holder h = holder-bound size _ (fit-sound size last p tests.0).holder_in h
+  pub covered_holder : size ≤ most_vessels → p.holder < most_holders
+  covered_holder h = holder_bound size _ (fit_sound size last p tests.0).holder_in h
 
-  pub covered-weight : p.weight ≤ get_or rest p.holder 0
-  covered-weight = leb-true _ _ tests.1
+  pub covered_weight : p.weight ≤ get_or rest p.holder 0
+  covered_weight = leb-true _ _ tests.1
 
--- a piece that fits has its holder among the mostHolders
-pub within : (size last : ℕ) (p : Piece) (b : Bool) (rest : List ℕ) → b ≡ fits size last p → b ≡ true → size ≤ mostVessels → length rest ≡ mostHolders → p.holder < length rest
-within size last p b rest e q h long = rw long (holder-bound size _ (fit-sound size last p (sym e ∙ q)).holder_in h)
+-- a piece that fits has its holder among the most_holders
+pub within : (size last : ℕ) (p : Piece) (b : Bool) (rest : List ℕ) → b ≡ fits size last p → b ≡ true → size ≤ most_vessels → length rest ≡ most_holders → p.holder < length rest
+within size last p b rest e q h long = rw long (holder_bound size _ (fit_sound size last p (sym e ∙ q)).holder_in h)
 
-pub test-passed : (a b c : Bool) → a ≡ b → a ≡ true → c ≡ (b && c)
-test-passed a b c e q = rw (← e, q)
+pub test_passed : (a b c : Bool) → a ≡ b → a ≡ true → c ≡ (b && c)
+test_passed a b c e q = rw (← e, q)
 
-pub test-then : (a b c d : Bool) → a ≡ b → a ≡ true → c ≡ d → c ≡ (b && d)
-test-then a b c d e q f = rw (← e, q) f
+pub test_then : (a b c d : Bool) → a ≡ b → a ≡ true → c ≡ d → c ≡ (b && d)
+test_then a b c d e q f = rw (← e, q) f
 
-pub test-failed : (a b c : Bool) → a ≡ b → a ≡ false → false ≡ (b && c)
-test-failed a b c e q = rw (← e, q)
+pub test_failed : (a b c : Bool) → a ≡ b → a ≡ false → false ≡ (b && c)
+test_failed a b c e q = rw (← e, q)
 
 -- the balances copied to the start of 65 numbers, and the scale's put behind them
-scale-behind : (bs z : List ℕ) (w : ℕ) (l : List ℕ) → length bs ≡ mostVessels → length z ≡ mostHolders → l ≡ bs ++ drop (length bs) z → set l mostVessels w ≡ bs ++ (w ∷ [])
-scale-behind bs z w l long lz el = rw el (one (drop (length bs) z) (simp length-drop (omega arith)))
+scale_behind : (bs z : List ℕ) (w : ℕ) (l : List ℕ) → length bs ≡ most_vessels → length z ≡ most_holders → l ≡ bs ++ drop (length bs) z → set l most_vessels w ≡ bs ++ (w ∷ [])
+scale_behind bs z w l long lz el = rw el (one (drop (length bs) z) (simp length-drop (omega arith)))
   where
-    one : (r : List ℕ) → length r ≡ 1 → set (bs ++ r) mostVessels w ≡ bs ++ (w ∷ [])
+    one : (r : List ℕ) → length r ≡ 1 → set (bs ++ r) most_vessels w ≡ bs ++ (w ∷ [])
     one [] e = absurd (omega arith)
-    one (x ∷ []) e = set_at bs x [] w mostVessels long
+    one (x ∷ []) e = set_at bs x [] w most_vessels long
     one (x ∷ (y ∷ r)) e = absurd (omega arith)
 
 -- `is_balanced`: the copy fits, and the numbers are then the balances of all holders
-pub copy-fits : (f t : List ℕ) → length f ≡ mostVessels → length t ≡ mostHolders → length f ≤ length t
-copy-fits f t a b = omega arith
+pub copy_fits : (f t : List ℕ) → length f ≡ most_vessels → length t ≡ most_holders → length f ≤ length t
+copy_fits f t a b = omega arith
 
-pub drawn-all : (h : Head) (ps : List Piece) (z l : List ℕ) (b : Bool) → h.vessels ≤ mostVessels → length h.balances ≡ mostVessels → length z ≡ mostHolders
-    → l ≡ h.balances ++ drop (length h.balances) z → b ≡ drained h.vessels h.last (set l mostVessels h.scale) ps → b ≡ all_of (balanced h ps)
-drawn-all h ps z l b few long lz el eb =
+pub drawn_all : (h : Head) (ps : List Piece) (z l : List ℕ) (b : Bool) → h.vessels ≤ most_vessels → length h.balances ≡ most_vessels → length z ≡ most_holders
+    → l ≡ h.balances ++ drop (length h.balances) z → b ≡ drained h.vessels h.last (set l most_vessels h.scale) ps → b ≡ all_of (balanced h ps)
+drawn_all h ps z l b few long lz el eb =
     eb
-    ∙ ap (λ (k : List ℕ). drained h.vessels h.last k ps) (scale-behind h.balances z h.scale l long lz el)
-    ∙ drained-is h.vessels h.last few ps h.balances h.scale long
-    ∙ go (every (fits h.vessels h.last) ps) (same h.balances (balancesOf h.vessels ps)) (eqb h.scale (held theScale ps))
+    ∙ ap (λ (k : List ℕ). drained h.vessels h.last k ps) (scale_behind h.balances z h.scale l long lz el)
+    ∙ drained_is h.vessels h.last few ps h.balances h.scale long
+    ∙ go (every (fits h.vessels h.last) ps) (same h.balances (balances_of h.vessels ps)) (eqb h.scale (held the_scale ps))
   where
     go : (f s c : Bool) → (f && (s && c)) ≡ (f && (s && (c && true)))
     go true true true = refl
@@ -162,23 +154,23 @@ drawn-all h ps z l b few long lz el eb =
 
 -- the copy, by what is done of it
 module _ (f t₀ t : List ℕ) (i : ℕ) (fit : length f ≤ length t₀) (e : t ≡ take i f ++ drop i t₀) where
-  pub copy-next : i < length f → set t i (get_or f i 0) ≡ take (i + 1) f ++ drop (i + 1) t₀
-  copy-next h = rw (add-one, e) (simp zero-add at (paste-suc t₀ 0 f i 0 (omega arith) h))
+  pub copy_next : i < length f → set t i (get_or f i 0) ≡ take (i + 1) f ++ drop (i + 1) t₀
+  copy_next h = rw (add-one, e) (simp zero-add at (paste-suc t₀ 0 f i 0 (omega arith) h))
 
-  pub copy-end : length f ≤ i → i ≤ length f → t ≡ f ++ drop (length f) t₀
-  copy-end g h = let k : i ≡ length f = omega arith in e ∙ rw (k, take-length f)
+  pub copy_end : length f ≤ i → i ≤ length f → t ≡ f ++ drop (length f) t₀
+  copy_end g h = let k : i ≡ length f = omega arith in e ∙ rw (k, take-length f)
 
 -- `adds_up`, at its returns
 module _ (h : Head) (t : List ℕ) where
-  pub places-short : (m : ℕ) → m ≡ places_of t → h.rule ≤ lastRule → 1 ≤ h.vessels → h.vessels ≤ mostVessels → m < h.pieces → false ≡ addsUp h t
-  unfolding addsUp
-  places-short m e r v w k = rw (le-leb _ _ r, le-leb 1 _ v, le-leb _ _ w, lt-leb h.pieces (places_of t) (rw e at k))
+  pub places_short : (m : ℕ) → m ≡ places_of t → h.rule ≤ last_rule → 1 ≤ h.vessels → h.vessels ≤ most_vessels → m < h.pieces → false ≡ adds_up h t
+  unfolding adds_up
+  places_short m e r v w k = rw (le-leb _ _ r, le-leb 1 _ v, le-leb _ _ w, lt-leb h.pieces (places_of t) (rw e at k))
 
-  pub tally-short : (m : ℕ) → m ≡ places_of t → h.rule ≤ lastRule → 1 ≤ h.vessels → h.vessels ≤ mostVessels → h.pieces ≤ m → h.accepted < h.pieces → false ≡ addsUp h t
-  unfolding addsUp
-  tally-short m e r v w k a = rw (le-leb _ _ r, le-leb 1 _ v, le-leb _ _ w, le-leb h.pieces (places_of t) (rw e at k), lt-leb _ _ a)
+  pub tally_short : (m : ℕ) → m ≡ places_of t → h.rule ≤ last_rule → 1 ≤ h.vessels → h.vessels ≤ most_vessels → h.pieces ≤ m → h.accepted < h.pieces → false ≡ adds_up h t
+  unfolding adds_up
+  tally_short m e r v w k a = rw (le-leb _ _ r, le-leb 1 _ v, le-leb _ _ w, le-leb h.pieces (places_of t) (rw e at k), lt-leb _ _ a)
 
-  pub adds-end : (m : ℕ) (b : Bool) → m ≡ places_of t → h.rule ≤ lastRule → 1 ≤ h.vessels → h.vessels ≤ mostVessels → h.pieces ≤ m → h.pieces ≤ h.accepted
-      → b ≡ all_of (balanced h (pieces_of h.pieces t)) → b ≡ addsUp h t
-  unfolding addsUp
-  adds-end m b e r v w k a eb = eb ∙ rw (le-leb _ _ r, le-leb 1 _ v, le-leb _ _ w, le-leb h.pieces (places_of t) (rw e at k), le-leb _ _ a)
+  pub adds_end : (m : ℕ) (b : Bool) → m ≡ places_of t → h.rule ≤ last_rule → 1 ≤ h.vessels → h.vessels ≤ most_vessels → h.pieces ≤ m → h.pieces ≤ h.accepted
+      → b ≡ all_of (balanced h (pieces_of h.pieces t)) → b ≡ adds_up h t
+  unfolding adds_up
+  adds_end m b e r v w k a eb = eb ∙ rw (le-leb _ _ r, le-leb 1 _ v, le-leb _ _ w, le-leb h.pieces (places_of t) (rw e at k), le-leb _ _ a)

@@ -1,9 +1,9 @@
 // Whether a book adds up.
 ghost use Rattle.std.specs.Prelude.{◌≡◌, ◌++◌, ◌≤◌, ◌*◌, length, drop};
 ghost use Rattle.table.specs.Table.{pieces_of};
-ghost use Rattle.book.specs.Head.{mostVessels, mostHolders, isHolder, all_of, lotFits, fits, allZero, balanced, addsUp, Sized};
+ghost use Rattle.book.specs.Head.{most_vessels, most_holders, is_holder, all_of, lot_fits, fits, all_zero, balanced, adds_up, Sized};
 ghost use Rattle.refusal.specs.Numbers.{first};
-ghost use Rattle.book.specs.Memory.{bookChecks};
+ghost use Rattle.book.specs.Memory.{book_checks};
 ghost use Rattle.ledger.specs.Audit.{covers, drained};
 
 use super::opening;
@@ -12,7 +12,7 @@ use table::Piece;
 
 // Whether a book of so many vessels has the holder: a vessel, or the scale.
 fn is_holder(holder: u32, vessels: u32) -> bool
-    ensures { result ≡ isHolder vessels holder }
+    ensures { result ≡ is_holder vessels holder }
 {
     if holder < vessels {
         return true;
@@ -22,7 +22,7 @@ fn is_holder(holder: u32, vessels: u32) -> bool
 
 // Whether the piece has an origin, a birth minute and a weight that fit a book of so many vessels with this last minute.
 fn lot_fits(p: Piece, vessels: u32, last: u32) -> bool
-    ensures { result ≡ lotFits vessels last p }
+    ensures { result ≡ lot_fits vessels last p }
 {
     if vessels <= p.origin {
         return false;
@@ -48,7 +48,7 @@ fn fits_in(p: Piece, vessels: u32, last: u32) -> bool
 
 // Whether the piece fits, and what is left of its holder's balance covers it.
 fn is_covered(p: Piece, vessels: u32, last: u32, rest: &[u32]) -> bool
-    requires { (vessels ≤ mostVessels) × (length rest.now ≡ mostHolders) }
+    requires { (vessels ≤ most_vessels) × (length rest.now ≡ most_holders) }
     ensures { result ≡ covers vessels last rest.now p }
 {
     if fits_in(p, vessels, last) {
@@ -59,7 +59,7 @@ fn is_covered(p: Piece, vessels: u32, last: u32, rest: &[u32]) -> bool
 }
 
 fn all_zero(rest: &[u32]) -> bool
-    ensures { result ≡ allZero rest.now }
+    ensures { result ≡ all_zero rest.now }
 {
     let mut i: usize = 0;
     while i < rest.len() {
@@ -85,7 +85,7 @@ fn copy_into(from: &[u32], to: &mut [u32])
 
 // Whether the n pieces draw the balances of all holders down to nothing.
 fn drains(table: &[u32], n: usize, vessels: u32, last: u32, balances: [u32; HOLDERS]) -> bool
-    requires { (4 * n ≤ length table.now) × (vessels ≤ mostVessels) }
+    requires { (4 * n ≤ length table.now) × (vessels ≤ most_vessels) }
     ensures { result ≡ drained vessels last balances (pieces_of n table.now) }
 {
     let mut rest = balances;
@@ -105,7 +105,7 @@ fn drains(table: &[u32], n: usize, vessels: u32, last: u32, balances: [u32; HOLD
 
 // Whether the n pieces fit, and the balances of the head, the scale's among them, are their sums.
 fn is_balanced(head: Head, table: &[u32], n: usize) -> bool
-    requires { (4 * n ≤ length table.now) × (head.vessels ≤ mostVessels) }
+    requires { (4 * n ≤ length table.now) × (head.vessels ≤ most_vessels) }
     ensures { result ≡ all_of (balanced head (pieces_of n table.now)) }
 {
     let vessels = head.balances;
@@ -117,7 +117,7 @@ fn is_balanced(head: Head, table: &[u32], n: usize) -> bool
 
 // Whether the book adds up: one pass over the pieces.
 pub fn adds_up(head: Head, table: &[u32]) -> bool
-    ensures { result ≡ addsUp head table.now }
+    ensures { result ≡ adds_up head table.now }
 {
     if opening::LAST_RULE < head.rule {
         return false;
@@ -140,7 +140,7 @@ pub fn adds_up(head: Head, table: &[u32]) -> bool
 
 // Checks 1 and 4, which every call makes first.
 pub fn refusal_of(head: Head, table: &[u32]) -> u32
-    ensures { (result ≡ first (bookChecks head table.now)) × Sized head }
+    ensures { (result ≡ first (book_checks head table.now)) × Sized head }
 {
     if table.len() < 4 {
         return refusal::TABLE_SHORT;

@@ -1,13 +1,13 @@
 // The balances of a head: one is read, and weight is moved from one to another.
 ghost use Rattle.std.specs.Prelude.{◌≡◌, ◌<◌};
-ghost use Rattle.book.specs.Head.{mostHolders, balanceAt, withBalance, shifted, Shiftable};
+ghost use Rattle.book.specs.Head.{most_holders, balance_at, with_balance, shifted, Shiftable};
 
 use book::{Head, SCALE};
 
 // The balance of a holder.
 pub fn balance_at(head: Head, holder: u32) -> u32
-    requires { holder < mostHolders }
-    ensures { result ≡ balanceAt head holder }
+    requires { holder < most_holders }
+    ensures { result ≡ balance_at head holder }
 {
     if holder == SCALE {
         return head.scale;
@@ -18,8 +18,8 @@ pub fn balance_at(head: Head, holder: u32) -> u32
 
 // The head with another balance of a holder.
 fn with_balance(head: Head, holder: u32, weight: u32) -> Head
-    requires { holder < mostHolders }
-    ensures { result ≡ withBalance head holder weight }
+    requires { holder < most_holders }
+    ensures { result ≡ with_balance head holder weight }
 {
     let mut next = head;
     if holder == SCALE {

@@ -1,7 +1,7 @@
 // Opening a book.
 ghost use Rattle.std.specs.Prelude.{◌≡◌};
 ghost use Rattle.refusal.specs.Numbers.{first};
-ghost use Rattle.book.specs.Head.{emptyHead, notOpened, openChecks, opening};
+ghost use Rattle.book.specs.Head.{empty_head, not_opened, open_checks, opening};
 
 use book::{BALANCES, Head, Opened};
 
@@ -13,7 +13,7 @@ pub const VESSELS: u32 = BALANCES as u32;
 
 // A head with this rule and this many vessels, and all other numbers 0.
 pub fn empty_head(rule: u32, vessels: u32) -> Head
-    ensures { result ≡ emptyHead rule vessels }
+    ensures { result ≡ empty_head rule vessels }
 {
     Head {
         rule: rule,
@@ -28,7 +28,7 @@ pub fn empty_head(rule: u32, vessels: u32) -> Head
 
 // A refusal: a head of zeros.
 pub fn refused(number: u32) -> Opened
-    ensures { result ≡ notOpened number }
+    ensures { result ≡ not_opened number }
 {
     Opened {
         number: number,
@@ -38,7 +38,7 @@ pub fn refused(number: u32) -> Opened
 
 // The first check that a rule and a number of vessels fail, or 0.
 pub fn open_number(rule: u32, vessels: u32) -> u32
-    ensures { result ≡ first (openChecks rule vessels) }
+    ensures { result ≡ first (open_checks rule vessels) }
 {
     if LAST_RULE < rule {
         return refusal::RULE_UNKNOWN;

@@ -1,27 +1,24 @@
 -- THE PUBLISHED LISTING (K1): the six movements, written as a sheet under rule 2, read, run and listed, are the five lines of document 01,
 -- byte for byte; and the two other forms of a listing. Assumes nothing.
-use mathlib.Core.Path.{◌≡◌, refl}
-use mathlib.Core.List.{List, [], ◌∷◌, ◌++◌, flat_map}
-use Prim.Native.Nat.{ℕ}
+use Rattle.std.proofs.Common.{◌≡◌, refl, List, [], ◌∷◌, ◌++◌, flat_map, ℕ, replicate}
 use Rattle.table.specs.declared.Piece.{Piece}
 use Rattle.book.specs.declared.Head.{Head}
-use lib.ListN.{replicate}
 use Rattle.table.specs.Table.{pieces_of, flat, places_of}
 use Rattle.taking.specs.Selection.{precedes}
-use Rattle.taking.specs.Taking.{takeUpTo, taken}
-use Rattle.book.specs.Head.{emptyHead, tab, balancesOf, every, same, addsUp, opening, allZero}
+use Rattle.taking.specs.Taking.{take_up_to, taken}
+use Rattle.book.specs.Head.{empty_head, tab, balances_of, every, same, adds_up, opening, all_zero}
 use Rattle.book.specs.Motion.{takes}
-use Rattle.book.specs.Transfer.{transferChecks}
-use Rattle.book.specs.Memory.{bookChecks, number_of, callOn}
-use Rattle.fields.specs.Bytes.{valueIn, bytes_of, groups, exists}
-use Rattle.fields.specs.Layout.{movementsOff}
-use Rattle.fields.specs.Movements.{entriesChecks}
-use Rattle.names.specs.Names.{letters, wellFormed}
-use Rattle.sheet.specs.Sheet.{layoutOff, noSheet, readNumber}
-use Rattle.writing.specs.Writing.{sheetOf}
-use Rattle.run.specs.Run.{run_from, runNumber, running}
+use Rattle.book.specs.Transfer.{transfer_checks}
+use Rattle.book.specs.Memory.{book_checks, number_of, call_on}
+use Rattle.fields.specs.Bytes.{value_in, bytes_of, groups, exists}
+use Rattle.fields.specs.Layout.{movements_off}
+use Rattle.fields.specs.Movements.{entries_checks}
+use Rattle.names.specs.Names.{letters, well_formed}
+use Rattle.sheet.specs.Sheet.{layout_off, no_sheet, read_number}
+use Rattle.writing.specs.Writing.{sheet_of}
+use Rattle.run.specs.Run.{run_from, run_number, running}
 use Rattle.text.specs.Digits.{digits, decimal}
-use Rattle.listing.specs.Listing.{firstLine, pieceLine, pieceLines, stoppedLine, refusedLine, bookText, listingText, sheetListing}
+use Rattle.listing.specs.Listing.{first_line, piece_line, piece_lines, stopped_line, refused_line, book_text, listing_text, sheet_listing}
 
 abbrev piece : ℕ → ℕ → ℕ → ℕ → Piece
 piece h o b w = record { holder = h; origin = o; birth = b; weight = w }
@@ -70,16 +67,16 @@ six =
     ∷ []
 
 -- the table that is lent: eight places, and no zeros in it
-pub published-whole : sheetListing (sheetOf 2 3 names six) (replicate 32 9) ≡ lines
-unfolding listingText bookText firstLine pieceLines pieceLine decimal digits sheetOf bytes_of groups flat_map readNumber noSheet movementsOff layoutOff valueIn exists wellFormed letters allZero entriesChecks run_from runNumber running callOn number_of bookChecks addsUp every same balancesOf tab places_of pieces_of flat opening transferChecks takes taken takeUpTo precedes
-published-whole = refl
+pub published_whole : sheet_listing (sheet_of 2 3 names six) (replicate 32 9) ≡ lines
+unfolding listing_text book_text first_line piece_lines piece_line decimal digits sheet_of bytes_of groups flat_map read_number no_sheet movements_off layout_off value_in exists well_formed letters all_zero entries_checks run_from run_number running call_on number_of book_checks adds_up every same balances_of tab places_of pieces_of flat opening transfer_checks takes taken take_up_to precedes
+published_whole = refl
 
 -- "stopped 6 at 9"
-pub published-stopped : listingText (record { number = 9; index = 6; even = 2; head = head }) pieces ≡ lines ++ (0x73 ∷ 0x74 ∷ 0x6f ∷ 0x70 ∷ 0x70 ∷ 0x65 ∷ 0x64 ∷ 0x20 ∷ 0x36 ∷ 0x20 ∷ 0x61 ∷ 0x74 ∷ 0x20 ∷ 0x39 ∷ 0x0a ∷ [])
-unfolding listingText bookText firstLine pieceLines pieceLine stoppedLine decimal digits
-published-stopped = refl
+pub published_stopped : listing_text (record { number = 9; index = 6; even = 2; head = head }) pieces ≡ lines ++ (0x73 ∷ 0x74 ∷ 0x6f ∷ 0x70 ∷ 0x70 ∷ 0x65 ∷ 0x64 ∷ 0x20 ∷ 0x36 ∷ 0x20 ∷ 0x61 ∷ 0x74 ∷ 0x20 ∷ 0x39 ∷ 0x0a ∷ [])
+unfolding listing_text book_text first_line piece_lines piece_line stopped_line decimal digits
+published_stopped = refl
 
 -- "refused 14"
-pub published-refused : listingText (record { number = 14; index = 0; even = 0; head = emptyHead 0 0 }) [] ≡ 0x72 ∷ 0x65 ∷ 0x66 ∷ 0x75 ∷ 0x73 ∷ 0x65 ∷ 0x64 ∷ 0x20 ∷ 0x31 ∷ 0x34 ∷ 0x0a ∷ []
-unfolding listingText refusedLine decimal digits
-published-refused = refl
+pub published_refused : listing_text (record { number = 14; index = 0; even = 0; head = empty_head 0 0 }) [] ≡ 0x72 ∷ 0x65 ∷ 0x66 ∷ 0x75 ∷ 0x73 ∷ 0x65 ∷ 0x64 ∷ 0x20 ∷ 0x31 ∷ 0x34 ∷ 0x0a ∷ []
+unfolding listing_text refused_line decimal digits
+published_refused = refl

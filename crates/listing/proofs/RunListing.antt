@@ -1,60 +1,56 @@
 -- THE LISTING OF A SHEET: a run refused by its sheet or by 1 prints only `refused N`, and every other the lines of its book. A run's
 -- pieces lie within its table, so that there is room for every listing. Assumes nothing.
-use mathlib.Core.Path.{◌≡◌, refl, sym}
-use mathlib.Core.List.{List}
-use Prim.Native.Nat.{ℕ, zero, suc, ◌*◌, ◌≤◌}
-use native.Mathlib.Omega.{arith}
-use lib.ListN.{length}
+use Rattle.std.proofs.Common.{◌≡◌, refl, sym, List, ℕ, zero, suc, ◌*◌, ◌≤◌, arith, length}
 use Rattle.refusal.specs.Numbers.{ifZero}
-use Rattle.refusal.proofs.Numbers.{not-zero}
-use Rattle.table.specs.Table.{mostPlaces, pieces_of, places_of}
-use Rattle.table.proofs.Table.{places-fit}
-use Rattle.book.proofs.Known.{AddsUp, adds-up}
+use Rattle.refusal.proofs.Numbers.{not_zero}
+use Rattle.table.specs.Table.{most_places, pieces_of, places_of}
+use Rattle.table.proofs.Table.{places_fit}
+use Rattle.book.proofs.Known.{AddsUp, adds_up_lem}
 use Rattle.run.specs.declared.Ran.{Ran}
-use Rattle.run.specs.Run.{Running, Gives, runNumber, running}
-use Rattle.run.proofs.RunTheorem.{refused-run, run-theorem}
-use Rattle.listing.specs.Listing.{Listed, listingText, bookText, refusedLine, listingOf, sheetListing, room_for, listingRoom}
+use Rattle.run.specs.Run.{Running, Gives, run_number, running}
+use Rattle.run.proofs.RunTheorem.{refused_run, run_theorem}
+use Rattle.listing.specs.Listing.{Listed, listing_text, book_text, refused_line, listing_of, sheet_listing, room_for, listing_room}
 
-few-places : (t : List ℕ) → places_of t ≤ mostPlaces
+few_places : (t : List ℕ) → places_of t ≤ most_places
 unfolding places_of
-few-places t = omega arith
+few_places t = omega arith
 
 -- the pieces lie in the table, and there are no more of them than a table has places
 pub record Fitting (r : Running) : Type 0 where
-  pub pieces-lie : 4 * r.answer.head.pieces ≤ length r.table
-  pub few : r.answer.head.pieces ≤ mostPlaces
+  pub pieces_lie : 4 * r.answer.head.pieces ≤ length r.table
+  pub few : r.answer.head.pieces ≤ most_places
 
 module _ (s t : List ℕ) where
-  module _ (e : runNumber s t ≡ 0) where
+  module _ (e : run_number s t ≡ 0) where
     abbrev r : Running
     r = running s t
 
     adds : AddsUp r.answer.head r.table
-    adds = let u = run-theorem s t e in adds-up _ _ (rw (u.folded.head-is, u.folded.table_is) u.demand.adds-up)
+    adds = let u = run_theorem s t e in adds_up_lem _ _ (rw (u.folded.head_is, u.folded.table_is) u.demand.adds_up_lem)
 
   pub fitting : Fitting (running s t)
-  fitting = go (runNumber s t) refl
+  fitting = go (run_number s t) refl
     where
-      go : (n : ℕ) → runNumber s t ≡ n → Fitting (running s t)
+      go : (n : ℕ) → run_number s t ≡ n → Fitting (running s t)
       go zero e = record {
-        pieces-lie = places-fit _ _ _ refl (adds e).few;
-        few = omega (arith, (adds e).few, few-places (running s t).table);
+        pieces_lie = places_fit _ _ _ refl (adds e).few;
+        few = omega (arith, (adds e).few, few_places (running s t).table);
       }
-      go (suc n) e = rw (refused-run s t n e) (record { pieces-lie = omega arith; few = omega arith })
+      go (suc n) e = rw (refused_run s t n e) (record { pieces_lie = omega arith; few = omega arith })
 
-  pub listing-theorem : sheetListing s t ≡ ifZero (runNumber s t) (bookText (running s t).answer (pieces_of (running s t).answer.head.pieces (running s t).table)) (refusedLine (runNumber s t))
-  unfolding listingText
-  listing-theorem = go (runNumber s t) refl
+  pub listing_theorem : sheet_listing s t ≡ ifZero (run_number s t) (book_text (running s t).answer (pieces_of (running s t).answer.head.pieces (running s t).table)) (refused_line (run_number s t))
+  unfolding listing_text
+  listing_theorem = go (run_number s t) refl
     where
-      go : (n : ℕ) → runNumber s t ≡ n
-          → sheetListing s t ≡ ifZero n (bookText (running s t).answer (pieces_of (running s t).answer.head.pieces (running s t).table)) (refusedLine n)
-      go zero e = sym (not-zero (running s t).answer.head.vessels _ _ (λ z. omega (arith, (adds e).some-vessel)))
-      go (suc n) e = rw (refused-run s t n e)
+      go : (n : ℕ) → run_number s t ≡ n
+          → sheet_listing s t ≡ ifZero n (book_text (running s t).answer (pieces_of (running s t).answer.head.pieces (running s t).table)) (refused_line n)
+      go zero e = sym (not_zero (running s t).answer.head.vessels _ _ (λ z. omega (arith, (adds e).some_vessel)))
+      go (suc n) e = rw (refused_run s t n e)
 
 -- `list_sheet`: the answer and the table are the run's, and there is room for the listing
 module _ (s t t' : List ℕ) (ran : Ran) (e : Gives (running s t) t' ran) where
-  pub list-ready : (room : ℕ) → listingRoom ≤ room → (4 * ran.head.pieces ≤ length t') × (room_for ran.head.pieces ≤ room)
-  list-ready room h = let f = fitting s t in (rw (e.answer-is, e.table_is) f.pieces-lie, rw e.answer-is (omega (arith, f.few)))
+  pub list_ready : (room : ℕ) → listing_room ≤ room → (4 * ran.head.pieces ≤ length t') × (room_for ran.head.pieces ≤ room)
+  list_ready room h = let f = fitting s t in (rw (e.answer_is, e.table_is) f.pieces_lie, rw e.answer_is (omega (arith, f.few)))
 
-  pub list_done : (l l' : List ℕ) (n : ℕ) → Listed l (listingOf ran t') n l' → Listed l (sheetListing s t) n l'
-  list_done l l' n p = rw (e.answer-is, e.table_is) at p
+  pub list_done : (l l' : List ℕ) (n : ℕ) → Listed l (listing_of ran t') n l' → Listed l (sheet_listing s t) n l'
+  list_done l l' n p = rw (e.answer_is, e.table_is) at p

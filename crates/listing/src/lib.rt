@@ -4,8 +4,8 @@
 ghost use Rattle.std.specs.Prelude.{◌+◌, ◌*◌, ◌≤◌, length};
 ghost use Rattle.table.specs.Table.{pieces_of};
 ghost use Rattle.text.specs.Text.{Put};
-ghost use Rattle.listing.specs.Listing.{firstLine, pieceLine, pieceLines, stoppedLine, refusedLine, lastLine, bookText, listingOf};
-ghost use Rattle.listing.specs.Listing.{Listed, ListsSheet, firstSize, piece_size, lastSize, refusedSize, room_for, listingRoom};
+ghost use Rattle.listing.specs.Listing.{first_line, piece_line, piece_lines, stopped_line, refused_line, last_line, book_text, listing_of};
+ghost use Rattle.listing.specs.Listing.{Listed, ListsSheet, first_size, piece_size, last_size, refused_size, room_for, listing_room};
 
 use book::Head;
 use run::Ran;
@@ -24,8 +24,8 @@ pub const ROOM: usize = FIRST + LAST + PIECE * table::PLACES;
 
 // The first line.
 fn put_first(out: &mut [u8], head: Head, even: u32) -> usize
-    requires { firstSize ≤ length out.old }
-    ensures { Put out.old 0 (firstLine head even) result out.new × (result ≤ firstSize) }
+    requires { first_size ≤ length out.old }
+    ensures { Put out.old 0 (first_line head even) result out.new × (result ≤ first_size) }
 {
     let rule_at = put_word(out, 0, b"vessels ", head.vessels);
     let accepted_at = put_word(out, rule_at, b" rule ", head.rule);
@@ -38,7 +38,7 @@ fn put_first(out: &mut [u8], head: Head, even: u32) -> usize
 // The line of a piece.
 fn put_piece(out: &mut [u8], at: usize, p: Piece) -> usize
     requires { at + piece_size ≤ length out.old }
-    ensures { Put out.old at (pieceLine p) result out.new × (result ≤ at + piece_size) }
+    ensures { Put out.old at (piece_line p) result out.new × (result ≤ at + piece_size) }
 {
     let origin_at = put_number(out, at, p.holder);
     let birth_at = put_word(out, origin_at, b" ", p.origin);
@@ -50,7 +50,7 @@ fn put_piece(out: &mut [u8], at: usize, p: Piece) -> usize
 // The lines of n pieces.
 fn put_pieces(out: &mut [u8], at: usize, table: &[u32], n: usize) -> usize
     requires { (4 * n ≤ length table.now) × (at + piece_size * n ≤ length out.old) }
-    ensures { Put out.old at (pieceLines (pieces_of n table.now)) result out.new × (result ≤ at + piece_size * n) }
+    ensures { Put out.old at (piece_lines (pieces_of n table.now)) result out.new × (result ≤ at + piece_size * n) }
 {
     let mut next = at;
     let mut i: usize = 0;
@@ -64,8 +64,8 @@ fn put_pieces(out: &mut [u8], at: usize, table: &[u32], n: usize) -> usize
 
 // The last line of a stopped run.
 fn put_stopped(out: &mut [u8], at: usize, index: u32, number: u32) -> usize
-    requires { at + lastSize ≤ length out.old }
-    ensures { Put out.old at (stoppedLine index number) result out.new × (result ≤ at + lastSize) }
+    requires { at + last_size ≤ length out.old }
+    ensures { Put out.old at (stopped_line index number) result out.new × (result ≤ at + last_size) }
 {
     let number_at = put_word(out, at, b"stopped ", index);
     let behind = put_word(out, number_at, b" at ", number);
@@ -74,8 +74,8 @@ fn put_stopped(out: &mut [u8], at: usize, index: u32, number: u32) -> usize
 
 // The last line, where the run was stopped.
 fn put_last(out: &mut [u8], at: usize, index: u32, number: u32) -> usize
-    requires { at + lastSize ≤ length out.old }
-    ensures { Put out.old at (lastLine index number) result out.new × (result ≤ at + lastSize) }
+    requires { at + last_size ≤ length out.old }
+    ensures { Put out.old at (last_line index number) result out.new × (result ≤ at + last_size) }
 {
     if number == 0 {
         return at;
@@ -85,8 +85,8 @@ fn put_last(out: &mut [u8], at: usize, index: u32, number: u32) -> usize
 
 // The only line of a refused run.
 fn put_refused(out: &mut [u8], number: u32) -> usize
-    requires { refusedSize ≤ length out.old }
-    ensures { Put out.old 0 (refusedLine number) result out.new × (result ≤ refusedSize) }
+    requires { refused_size ≤ length out.old }
+    ensures { Put out.old 0 (refused_line number) result out.new × (result ≤ refused_size) }
 {
     let behind = put_word(out, 0, b"refused ", number);
     put_text(out, behind, b"\n")
@@ -95,7 +95,7 @@ fn put_refused(out: &mut [u8], number: u32) -> usize
 // The lines of a run that ended with a book.
 fn put_book(out: &mut [u8], ran: Ran, table: &[u32]) -> usize
     requires { (4 * ran.head.pieces ≤ length table.now) × (room_for ran.head.pieces ≤ length out.old) }
-    ensures { Put out.old 0 (bookText ran (pieces_of ran.head.pieces table.now)) result out.new
+    ensures { Put out.old 0 (book_text ran (pieces_of ran.head.pieces table.now)) result out.new
         × (result ≤ room_for ran.head.pieces) }
 {
     let head = ran.head;
@@ -108,7 +108,7 @@ fn put_book(out: &mut [u8], ran: Ran, table: &[u32]) -> usize
 // Lists a run that left its pieces in the table, and yields how many bytes that took. Bytes behind them remain.
 pub fn put_listing(ran: Ran, table: &[u32], out: &mut [u8]) -> usize
     requires { (4 * ran.head.pieces ≤ length table.now) × (room_for ran.head.pieces ≤ length out.old) }
-    ensures { Listed out.old (listingOf ran table.now) result out.new }
+    ensures { Listed out.old (listing_of ran table.now) result out.new }
 {
     let head = ran.head;
     if head.vessels == 0 {
@@ -119,7 +119,7 @@ pub fn put_listing(ran: Ran, table: &[u32], out: &mut [u8]) -> usize
 
 // Runs a sheet on the table and lists the run.
 pub fn list_sheet(sheet: &[u8], table: &mut [u32], out: &mut [u8]) -> usize
-    requires { listingRoom ≤ length out.old }
+    requires { listing_room ≤ length out.old }
     ensures { ListsSheet sheet.now table.old out.old result table.new out.new }
 {
     let ran = run::run(sheet, table);

@@ -5,12 +5,12 @@
 ghost use Rattle.std.specs.Prelude.{◌≡◌, length};
 ghost use Rattle.book.specs.Head.{opening};
 ghost use Rattle.book.specs.declared.Report.TheVariants.{Held, Spread, Whole};
-ghost use Rattle.book.specs.Transfer.{transferOf};
+ghost use Rattle.book.specs.Transfer.{transfer_of};
 ghost use Rattle.book.specs.Calls.{post};
 ghost use Rattle.posting.specs.Posting.{Posts};
 ghost use Rattle.reports.specs.Asking.{Asks};
-ghost use Rattle.sheet.specs.Answers.{reading, movementAsked, nameNumber, nameAsked};
-ghost use Rattle.writing.specs.Writing.{writeNumber, written};
+ghost use Rattle.sheet.specs.Answers.{reading, movement_asked, name_number, name_asked};
+ghost use Rattle.writing.specs.Writing.{write_number, written};
 ghost use Rattle.run.specs.Run.{Gives, running};
 
 use book::{Head, Opened, Reported, Transfer, Transferred};
@@ -36,7 +36,7 @@ pub extern "C" fn lumchaki_transfer(
     weight: u32,
     age: u16,
 ) -> Transferred
-    ensures { Posts head (post (transferOf source destination minute weight age)) table.old table.new result }
+    ensures { Posts head (post (transfer_of source destination minute weight age)) table.old table.new result }
 {
     posting::transfer(
         head,
@@ -100,7 +100,7 @@ pub extern "C" fn lumchaki_read(sheet: &[u8]) -> Reading
 
 #[unsafe(no_mangle)]
 pub extern "C" fn lumchaki_movement(sheet: &[u8], index: u32) -> Movement
-    ensures { result ≡ movementAsked sheet.now index }
+    ensures { result ≡ movement_asked sheet.now index }
 {
     sheet::movement(sheet, index)
 }
@@ -108,7 +108,7 @@ pub extern "C" fn lumchaki_movement(sheet: &[u8], index: u32) -> Movement
 // An exported function returns no reference: the name is the part of this length that starts at byte 24 + 8 × vessel of the sheet.
 #[unsafe(no_mangle)]
 pub extern "C" fn lumchaki_name(sheet: &[u8], vessel: u32) -> usize
-    ensures { result ≡ length (nameAsked sheet.now vessel) }
+    ensures { result ≡ length (name_asked sheet.now vessel) }
 {
     let name = sheet::name(sheet, vessel);
     name.len()
@@ -116,7 +116,7 @@ pub extern "C" fn lumchaki_name(sheet: &[u8], vessel: u32) -> usize
 
 #[unsafe(no_mangle)]
 pub extern "C" fn lumchaki_name_number(sheet: &[u8], vessel: u32) -> u32
-    ensures { result ≡ nameNumber sheet.now vessel }
+    ensures { result ≡ name_number sheet.now vessel }
 {
     sheet::name_number(sheet, vessel)
 }
@@ -129,7 +129,7 @@ pub extern "C" fn lumchaki_write(
     numbers: &[u32],
     out: &mut [u8],
 ) -> u32
-    ensures number { result ≡ writeNumber rule vessels names.now numbers.now (length out.old) }
+    ensures number { result ≡ write_number rule vessels names.now numbers.now (length out.old) }
     ensures bytes { out.new ≡ written rule vessels names.now numbers.now out.old }
 {
     writing::write(rule, vessels, names, numbers, out)

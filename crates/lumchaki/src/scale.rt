@@ -1,5 +1,5 @@
 // Lift and tip for C and Rust.
-ghost use Rattle.book.specs.Scale.{liftOf, tip_of};
+ghost use Rattle.book.specs.Scale.{lift_of, tip_of};
 ghost use Rattle.book.specs.Calls.{lift};
 ghost use Rattle.posting.specs.Posting.{Posts, Tips};
 
@@ -14,7 +14,7 @@ pub extern "C" fn lumchaki_lift(
     weight: u32,
     age: u16,
 ) -> Transferred
-    ensures { Posts head (lift (liftOf source minute weight age)) table.old table.new result }
+    ensures { Posts head (lift (lift_of source minute weight age)) table.old table.new result }
 {
     posting::lift(
         head,

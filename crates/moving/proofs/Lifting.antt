@@ -1,76 +1,70 @@
 -- The pieces that go whole are lifted, one after the other: c keys of `gone` are behind, and what the rest of them vacates and picks
 -- completes what all of them do.
 -- Assumes nothing.
-use mathlib.Core.Path.{◌≡◌, refl, sym, ap, ◌∙◌}
-use mathlib.Core.List.{List, [], ◌∷◌, ◌++◌, append_assoc, append-nil, map}
-use Prim.Native.Nat.{ℕ, suc, ◌+◌, ◌-◌, ◌*◌, ◌≤◌, ◌<◌}
-use native.Mathlib.Numerals.{add-one}
-use native.Mathlib.Omega.{arith}
-use lib.ListN.{length, get_or, drop, length-take, drop_of_length-le}
-use lib.Seq.{drop-cons, get_or-take}
+use Rattle.std.proofs.Common.{◌≡◌, refl, sym, ap, ◌∙◌, List, [], ◌∷◌, ◌++◌, append_assoc, append-nil, map, ℕ, suc, ◌+◌, ◌-◌, ◌*◌, ◌≤◌, ◌<◌, add-one, arith, length, get_or, drop, length-take, drop_of_length-le, drop-cons, get_or-take}
 use Rattle.table.specs.declared.Piece.{Piece}
-use Rattle.table.specs.Pieces.{ofWeight, handTo}
-use Rattle.table.specs.Table.{pieces_of, over, pieceIn, put_in}
+use Rattle.table.specs.Pieces.{of_weight, hand_to}
+use Rattle.table.specs.Table.{pieces_of, over, piece_in, put_in}
 use Rattle.table.specs.Closing.{vacated}
-use Rattle.table.proofs.Table.{length-pieces, rest_over, formed, put-pieces, put-more}
+use Rattle.table.proofs.Table.{length_pieces, rest_over, formed, put_pieces, put_more}
 use Rattle.taking.specs.declared.Move.{Move}
 use Rattle.picking.specs.declared.selection.Order.{Order}
-use Rattle.picking.specs.Plan.{place_of, inOrder, vacateAt, vacateAll, picked}
-use Rattle.picking.proofs.Keys.{length-inOrder}
-use Rattle.moving.specs.Applied.{liftedPlaces}
+use Rattle.picking.specs.Plan.{place_of, in_order, vacate_at, vacate_all, picked}
+use Rattle.picking.proofs.Keys.{length_in_order}
+use Rattle.moving.specs.Applied.{lifted_places}
 use Rattle.moving.specs.Parts.{Room, gone, LiftsOne, Lifts, Splits}
 
 -- one piece, lifted or split
-module _ (n i d c : ℕ) (t t' l l' : List ℕ) (p : Piece) (e : p ≡ pieceIn n t i) where
-  pub lifted-one : (g h : Piece) → g ≡ handTo d p → l' ≡ put_in liftedPlaces c g l → h ≡ vacated p → t' ≡ put_in n i h t
+module _ (n i d c : ℕ) (t t' l l' : List ℕ) (p : Piece) (e : p ≡ piece_in n t i) where
+  pub lifted_one : (g h : Piece) → g ≡ hand_to d p → l' ≡ put_in lifted_places c g l → h ≡ vacated p → t' ≡ put_in n i h t
       → LiftsOne n i d c t l t' l'
-  lifted-one g h eg el eh et = record { stands = et ∙ rw (eh, e); goes = el ∙ rw (eg, e) }
+  lifted_one g h eg el eh et = record { stands = et ∙ rw (eh, e); goes = el ∙ rw (eg, e) }
 
-  pub split_off : (w v : ℕ) (a g h : Piece) → v ≡ p.weight - w → a ≡ ofWeight w p → g ≡ handTo d a → l' ≡ put_in liftedPlaces c g l
-      → h ≡ ofWeight v p → t' ≡ put_in n i h t → Splits n i d w c t l t' l'
+  pub split_off : (w v : ℕ) (a g h : Piece) → v ≡ p.weight - w → a ≡ of_weight w p → g ≡ hand_to d a → l' ≡ put_in lifted_places c g l
+      → h ≡ of_weight v p → t' ≡ put_in n i h t → Splits n i d w c t l t' l'
   split_off w v a g h ev ea eg el eh et = record { stands = et ∙ rw (eh, ev, e); goes = el ∙ rw (eg, ea, e) }
 
 pub record Lifting (n whole c : ℕ) (m : Move) (o : Order) (keys t₀ t l : List ℕ) : Type 0 where
   pub form : t ≡ over n (pieces_of n t) t₀
-  pub vacates : vacateAll (drop c (gone whole o keys)) (pieces_of n t) ≡ vacateAll (gone whole o keys) (pieces_of n t₀)
-  pub picks : pieces_of c l ++ map (handTo m.destination) (picked (drop c (gone whole o keys)) (pieces_of n t))
-      ≡ map (handTo m.destination) (picked (gone whole o keys) (pieces_of n t₀))
+  pub vacates : vacate_all (drop c (gone whole o keys)) (pieces_of n t) ≡ vacate_all (gone whole o keys) (pieces_of n t₀)
+  pub picks : pieces_of c l ++ map (hand_to m.destination) (picked (drop c (gone whole o keys)) (pieces_of n t))
+      ≡ map (hand_to m.destination) (picked (gone whole o keys) (pieces_of n t₀))
 
 module _ (n whole : ℕ) (m : Move) (o : Order) (keys t₀ : List ℕ) where
-  pub lift-start : (l : List ℕ) → 4 * n ≤ length t₀ → Lifting n whole 0 m o keys t₀ t₀ l
+  pub lift_start : (l : List ℕ) → 4 * n ≤ length t₀ → Lifting n whole 0 m o keys t₀ t₀ l
   unfolding pieces_of
-  lift-start l h = record { form = formed n t₀ h; vacates = refl; picks = refl }
+  lift_start l h = record { form = formed n t₀ h; vacates = refl; picks = refl }
 
   abbrev going : List ℕ
   going = gone whole o keys
 
   abbrev hand : Piece → Piece
-  hand = handTo m.destination
+  hand = hand_to m.destination
 
   module _ (c : ℕ) (t l : List ℕ) (s : Lifting n whole c m o keys t₀ t l) where
-    pub lift-next : (i : ℕ) (l₀ t' l' : List ℕ) → Room n whole o keys t₀ l₀ → c < whole → i ≡ place_of (get_or (inOrder o keys) c 0)
+    pub lift_next : (i : ℕ) (l₀ t' l' : List ℕ) → Room n whole o keys t₀ l₀ → c < whole → i ≡ place_of (get_or (in_order o keys) c 0)
         → LiftsOne n i m.destination c t l t' l' → Lifting n whole (c + 1) m o keys t₀ t' l'
-    unfolding vacateAll picked
-    lift-next i l₀ t' l' room h ei one =
+    unfolding vacate_all picked
+    lift_next i l₀ t' l' room h ei one =
         let k : ℕ = get_or going c 0 in
         let next : List ℕ = drop (suc c) going in
-        let long : length going ≡ whole = simp length-take (omega (arith, length-inOrder o keys room.order room.memory)) in
+        let long : length going ≡ whole = simp length-take (omega (arith, length_in_order o keys room.order room.memory)) in
         let cons : drop c going ≡ k ∷ next = drop-cons going c 0 (rw long h) in
-        let place : place_of k ≡ i = ap place_of (get_or-take whole (inOrder o keys) c 0 h) ∙ sym ei in
-        let ps : pieces_of n t' ≡ vacateAt i (pieces_of n t) = put-pieces n i t t' (vacated (pieceIn n t i)) one.stands in
-        let vacates : vacateAll next (vacateAt (place_of k) (pieces_of n t)) ≡ vacateAll going (pieces_of n t₀) = rw cons at s.vacates in
-        let picks : pieces_of c l ++ (hand (pieceIn n t (place_of k)) ∷ map hand (picked next (vacateAt (place_of k) (pieces_of n t))))
+        let place : place_of k ≡ i = ap place_of (get_or-take whole (in_order o keys) c 0 h) ∙ sym ei in
+        let ps : pieces_of n t' ≡ vacate_at i (pieces_of n t) = put_pieces n i t t' (vacated (piece_in n t i)) one.stands in
+        let vacates : vacate_all next (vacate_at (place_of k) (pieces_of n t)) ≡ vacate_all going (pieces_of n t₀) = rw cons at s.vacates in
+        let picks : pieces_of c l ++ (hand (piece_in n t (place_of k)) ∷ map hand (picked next (vacate_at (place_of k) (pieces_of n t))))
         ≡ map hand (picked going (pieces_of n t₀)) = rw cons at s.picks in
-        let more : pieces_of (c + 1) l' ≡ pieces_of c l ++ (hand (pieceIn n t i) ∷ []) = put-more liftedPlaces c l l' _ one.goes (omega arith) in
+        let more : pieces_of (c + 1) l' ≡ pieces_of c l ++ (hand (piece_in n t i) ∷ []) = put_more lifted_places c l l' _ one.goes (omega arith) in
         record {
-          form = one.stands ∙ rw (ps, ap (drop (4 * n)) s.form ∙ rest_over n (pieces_of n t) (drop (4 * n) t₀) (length-pieces n t));
+          form = one.stands ∙ rw (ps, ap (drop (4 * n)) s.form ∙ rest_over n (pieces_of n t) (drop (4 * n) t₀) (length_pieces n t));
           vacates = rw (add-one, ps) (rw place at vacates);
           picks = rw (more, add-one, ps, append_assoc) (rw place at picks);
         }
 
-    pub lift-end : c ≤ whole → whole ≤ c → Lifts n whole m o keys t₀ t l
-    unfolding vacateAll picked
-    lift-end h g =
+    pub lift_end : c ≤ whole → whole ≤ c → Lifts n whole m o keys t₀ t l
+    unfolding vacate_all picked
+    lift_end h g =
         let e : c ≡ whole = omega arith in
         let no : drop c going ≡ [] = drop_of_length-le going {i = c} (simp length-take (omega arith)) in
         record {

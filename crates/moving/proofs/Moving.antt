@@ -1,41 +1,33 @@
 -- A transfer whole: the order and its plan give what `taken` says, so the plan tells whether there is room, and applying it gives
 -- the answer and the table.
 -- Assumes nothing.
-use mathlib.Core.Path.{◌≡◌, refl, sym, ap, ◌∙◌}
-use mathlib.Core.Logic.{◌≢◌}
-use mathlib.Core.Bool.{Bool, true, false, cond}
-use mathlib.Core.List.{List, [], ◌∷◌}
-use Prim.Native.Nat.{ℕ, suc, ◌+◌, ◌-◌, ◌*◌, ◌≤◌, ◌<◌, min}
-use native.Mathlib.Omega.{arith}
-use lib.Dec.{leb, ltb, eqb}
-use lib.ListN.{length, drop, drop_of_length-le}
-use lib.Seq.{drop-cons}
-use borrow.Author.Tests.{leb-true, leb-false, ltb-true, ltb-false, eqb-true, eqb-false, lt-ltb, le-ltb}
+use Rattle.std.proofs.Common.{◌≡◌, refl, sym, ap, ◌∙◌, ◌≢◌, Bool, true, false, cond, List, [], ◌∷◌, ℕ, suc, ◌+◌, ◌-◌, ◌*◌, ◌≤◌, ◌<◌, min, arith, leb, ltb, eqb, length, drop, drop_of_length-le, drop-cons, leb-true, leb-false, ltb-true, ltb-false, eqb-true, lt-ltb, le-ltb}
+use borrow.Author.Tests.{eqb-false}
 use Rattle.table.specs.declared.Piece.{Piece}
-use Rattle.table.specs.Table.{mostPlaces, pieces_of, lay}
-use Rattle.table.proofs.Table.{length-pieces}
+use Rattle.table.specs.Table.{most_places, pieces_of, lay}
+use Rattle.table.proofs.Table.{length_pieces}
 use Rattle.picking.specs.declared.selection.Order.{Order}
 use Rattle.picking.specs.declared.plan.Plan.{Plan}
 use Rattle.moving.specs.declared.Applied.{Applied}
 use Rattle.taking.specs.declared.Move.{Move}
 use Rattle.taking.specs.Taking.{Taken, handed, taken}
-use Rattle.picking.specs.Plan.{atKey, inOrder, halt, planFrom, splits, lacking, takenBy, planned}
-use Rattle.moving.specs.Applied.{full, refused, accepted, applied, tableLeft, Ready, Moves}
+use Rattle.picking.specs.Plan.{at_key, in_order, halt, plan_from, splits, lacking, taken_by, planned}
+use Rattle.moving.specs.Applied.{full, refused, accepted, applied, table_left, Ready, Moves}
 use Rattle.picking.specs.Ordering.{Ordered}
 use Rattle.moving.specs.Parts.{Room, Applicable, Applies}
-use Rattle.picking.proofs.Keys.{length-inOrder}
-use Rattle.picking.proofs.Planned.{taken-planned}
-use Rattle.taking.proofs.Taking.{taken-law}
-use Rattle.taking.proofs.Handed.{handed-length}
+use Rattle.picking.proofs.Keys.{length_in_order}
+use Rattle.picking.proofs.Planned.{taken_planned}
+use Rattle.taking.proofs.Taking.{taken_law}
+use Rattle.taking.proofs.Handed.{handed_length}
 
 -- the plan takes no more keys than there are
-plan-most : (ks : List ℕ) (c want : ℕ) (ps : List Piece) → (planFrom c ks want ps).whole ≤ c + length ks
-unfolding planFrom
-plan-most [] c want ps = omega arith
-plan-most (k ∷ ks) c want ps = go (eqb want 0) (leb w want) _ (plan-most ks (suc c) (want - w) ps)
+plan_most : (ks : List ℕ) (c want : ℕ) (ps : List Piece) → (plan_from c ks want ps).whole ≤ c + length ks
+unfolding plan_from
+plan_most [] c want ps = omega arith
+plan_most (k ∷ ks) c want ps = go (eqb want 0) (leb w want) _ (plan_most ks (suc c) (want - w) ps)
   where
     w : ℕ
-    w = (atKey ps k).weight
+    w = (at_key ps k).weight
 
     go : (u t : Bool) (r : Plan) → r.whole ≤ suc c + length ks → (cond u (halt c want) (cond t r (halt c want))).whole ≤ c + suc (length ks)
     go true t r e = omega arith
@@ -58,35 +50,35 @@ by_next f a h c ks = go (ltb c (length ks)) refl
 
 module _ {n places rule : ℕ} {m : Move} {keys₀ spare t l : List ℕ} (ready : Ready n places m t keys₀ spare l)
     {o : Order} {keys : List ℕ} (ordered : Ordered n rule m.source o t keys)
-    {r : Plan} (plan : r ≡ planFrom 0 (inOrder o keys) m.weight (pieces_of n t)) where
+    {r : Plan} (plan : r ≡ plan_from 0 (in_order o keys) m.weight (pieces_of n t)) where
   abbrev ps : List Piece
   ps = pieces_of n t
 
   abbrev ks : List ℕ
-  ks = inOrder o keys
+  ks = in_order o keys
 
   abbrev taking : Taken
   taking = taken rule m ps
 
-  length-order : length ks ≡ o.count
-  length-order = length-inOrder o keys (omega (arith, ordered.most, ready.pieces, ready.most)) ordered.memory
+  length_order : length ks ≡ o.count
+  length_order = length_in_order o keys (omega (arith, ordered.most, ready.pieces, ready.most)) ordered.memory
 
-  by-plan : taking ≡ takenBy ks ps r
+  by_plan : taking ≡ taken_by ks ps r
   unfolding planned
-  by-plan =
-      let h : length ps ≤ mostPlaces = rw length-pieces (omega (arith, ready.pieces, ready.most)) in
-      taken-planned rule m ps ready.source h ready.present ∙ rw (plan, ordered.order)
+  by_plan =
+      let h : length ps ≤ most_places = rw length_pieces (omega (arith, ready.pieces, ready.most)) in
+      taken_planned rule m ps ready.source h ready.present ∙ rw (plan, ordered.order)
 
-  whole-most : r.whole ≤ o.count
-  whole-most = rw plan (omega (arith, length-order, plan-most ks 0 m.weight ps))
+  whole_most : r.whole ≤ o.count
+  whole_most = rw plan (omega (arith, length_order, plan_most ks 0 m.weight ps))
 
   rest : length taking.rest + taking.whole ≡ n
-  rest = let l = taken-law rule m ps in omega (arith, l.fair.longer, l.counted, length-pieces n t)
+  rest = let l = taken_law rule m ps in omega (arith, l.fair.longer, l.counted, length_pieces n t)
 
   size : length (handed m taking) ≡ n + min 1 r.left
   size =
-      let e : taking.split + min 1 taking.born ≡ min 1 r.left = rw by-plan (one_of r.left (drop r.whole ks)) in
-      omega (arith, handed-length m ps taking (taken-law rule m ps).fair, length-pieces n t)
+      let e : taking.split + min 1 taking.born ≡ min 1 r.left = rw by_plan (one_of r.left (drop r.whole ks)) in
+      omega (arith, handed_length m ps taking (taken_law rule m ps).fair, length_pieces n t)
 
   -- a place more is wanted where something is left after the whole ones
   due : full places m taking ≡ cond (eqb r.left 0) false (leb places n)
@@ -98,36 +90,36 @@ module _ {n places rule : ℕ} {m : Move} {keys₀ spare t l : List ℕ} (ready 
       go false e false f = let g : n < places = leb-false _ _ f in le-ltb places (n + min 1 r.left) (omega arith)
 
   module _ {b : Bool} (is : b ≡ cond (eqb r.left 0) false (leb places n)) where
-    pub move-refused : b ≡ true → Moves n places rule m t t (refused n)
-    unfolding applied tableLeft
-    move-refused e = record { answer = rw (due ∙ sym is ∙ e); table = rw (due ∙ sym is ∙ e) }
+    pub move_refused : b ≡ true → Moves n places rule m t t (refused n)
+    unfolding applied table_left
+    move_refused e = record { answer = rw (due ∙ sym is ∙ e); table = rw (due ∙ sym is ∙ e) }
 
     module _ (e : b ≡ false) where
       free : full places m taking ≡ false
       free = due ∙ sym is ∙ e
 
-      pub move-ready : Room n r.whole o keys t l × Applicable n m o r keys t
-      move-ready =
+      pub move_ready : Room n r.whole o keys t l × Applicable n m o r keys t
+      move_ready =
           let h : length (handed m taking) ≤ places = ltb-false _ _ free in
           let f : 4 * length (handed m taking) ≤ length t = omega (arith, ready.room) in (
             record {
               places = omega (arith, ready.pieces, ready.most);
               pieces = omega (arith, ready.pieces, ready.room);
-              goes = whole-most;
+              goes = whole_most;
               order = omega (arith, ordered.most, ready.pieces, ready.most);
               memory = ordered.memory;
               above = ready.above;
             },
-            record { rest = rw by-plan at rest; fits = rw by-plan at f },
+            record { rest = rw by_plan at rest; fits = rw by_plan at f },
           )
 
-      pub move-applied : {t' : List ℕ} {a : Applied} → Applies n m o r keys t t' a
+      pub move_applied : {t' : List ℕ} {a : Applied} → Applies n m o r keys t t' a
           → Moves n places rule m t t' a
-      unfolding applied tableLeft
-      move-applied done =
-          let v = rw length-order at (by_next (splits r.left) (min 1 r.left) (λ k ks. refl) r.whole ks) in
-          let w = rw length-order at (by_next (lacking r.left) 0 (λ k ks. refl) r.whole ks) in
+      unfolding applied table_left
+      move_applied done =
+          let v = rw length_order at (by_next (splits r.left) (min 1 r.left) (λ k ks. refl) r.whole ks) in
+          let w = rw length_order at (by_next (lacking r.left) 0 (λ k ks. refl) r.whole ks) in
           record {
-            answer = done.answers ∙ rw (← v, ← w) (sym (rw free (ap (accepted m) by-plan)));
-            table = done.stands ∙ sym (rw free (ap (λ (z : Taken). lay (handed m z) t) by-plan));
+            answer = done.answers ∙ rw (← v, ← w) (sym (rw free (ap (accepted m) by_plan)));
+            table = done.stands ∙ sym (rw free (ap (λ (z : Taken). lay (handed m z) t) by_plan));
           }

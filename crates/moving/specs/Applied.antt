@@ -2,7 +2,7 @@
 -- Definitions only. Assumes nothing.
 use Rattle.std.specs.Prelude.{◌≡◌, Bool, true, false, cond, List, ℕ, ◌+◌, ◌*◌, ◌≤◌, ◌<◌, ltb, length}
 use Rattle.table.specs.Pieces.{All}
-use Rattle.table.specs.Table.{mostPlaces, pieces_of, lay}
+use Rattle.table.specs.Table.{most_places, pieces_of, lay}
 use Rattle.table.specs.Closing.{VACANT, Present}
 use Rattle.taking.specs.declared.Move.{Move}
 use Rattle.taking.specs.Taking.{Taken, handed, taken}
@@ -22,26 +22,26 @@ unfoldable pub applied : ℕ → ℕ → Move → Taken → Applied
 applied places n m r = cond (full places m r) (refused n) (accepted m r)
 
 -- the table that is left of t
-unfoldable pub tableLeft : ℕ → Move → Taken → List ℕ → List ℕ
-tableLeft places m r t = cond (full places m r) t (lay (handed m r) t)
+unfoldable pub table_left : ℕ → Move → Taken → List ℕ → List ℕ
+table_left places m r t = cond (full places m r) t (lay (handed m r) t)
 
 -- Every place and one piece more: the part of a split, or what is born.
-abbrev pub liftedPlaces : ℕ
-liftedPlaces = mostPlaces + 1
+abbrev pub lifted_places : ℕ
+lifted_places = most_places + 1
 
 -- What `move_pieces` asks: n pieces lie in the table t, which has so many places; there is memory for keys, to sort them, and for
 -- lifted pieces; and no holder is VACANT.
 pub record Ready (n places : ℕ) (m : Move) (t keys spare lifted : List ℕ) : Type 0 where
   pub pieces : n ≤ places
-  pub most : places ≤ mostPlaces
+  pub most : places ≤ most_places
   pub room : 4 * places ≤ length t
-  pub memory : length keys ≡ mostPlaces
-  pub aside : mostPlaces ≤ length spare
-  pub above : 4 * liftedPlaces ≤ length lifted
+  pub memory : length keys ≡ most_places
+  pub aside : most_places ≤ length spare
+  pub above : 4 * lifted_places ≤ length lifted
   pub source : m.source < VACANT
   pub present : All Present (pieces_of n t)
 
 -- What it promises, of its answer and of the table after.
 pub record Moves (n places rule : ℕ) (m : Move) (t t' : List ℕ) (r : Applied) : Type 0 where
   pub answer : r ≡ applied places n m (taken rule m (pieces_of n t))
-  pub table : t' ≡ tableLeft places m (taken rule m (pieces_of n t)) t
+  pub table : t' ≡ table_left places m (taken rule m (pieces_of n t)) t

@@ -1,8 +1,8 @@
 // A plan is applied: what goes is lifted out of the table, the rest closes up, and what was lifted is put at the end.
 ghost use Rattle.std.specs.Prelude.{◌≡◌, ◌<◌, ◌≤◌, ◌-◌, ◌*◌, length};
-ghost use Rattle.table.specs.Table.{mostPlaces};
-ghost use Rattle.moving.specs.Applied.{liftedPlaces};
-ghost use Rattle.moving.specs.Parts.{Room, LiftsOne, Lifts, Splits, Follows, Gathers, planAnswer, Applicable, Applies};
+ghost use Rattle.table.specs.Table.{most_places};
+ghost use Rattle.moving.specs.Applied.{lifted_places};
+ghost use Rattle.moving.specs.Parts.{Room, LiftsOne, Lifts, Splits, Follows, Gathers, plan_answer, Applicable, Applies};
 
 use super::{Applied, LIFTED_PLACES};
 use picking::plan::Plan;
@@ -12,7 +12,7 @@ use taking::Move;
 
 // The piece at place i is copied to place c of the lifted, with its new holder, and its place is vacant.
 fn lift_one(table: &mut [u32], n: usize, i: usize, destination: u32, lifted: &mut [u32], c: usize)
-    requires { (4 * n ≤ length table.old) × (c < liftedPlaces) × (4 * liftedPlaces ≤ length lifted.old) }
+    requires { (4 * n ≤ length table.old) × (c < lifted_places) × (4 * lifted_places ≤ length lifted.old) }
     ensures { LiftsOne n i destination c table.old lifted.old table.new lifted.new }
 {
     let p = table::piece_or_none(table, n, i);
@@ -61,7 +61,7 @@ fn split_one(
     lifted: &mut [u32],
     c: usize,
 )
-    requires { (4 * n ≤ length table.old) × (c < liftedPlaces) × (4 * liftedPlaces ≤ length lifted.old) }
+    requires { (4 * n ≤ length table.old) × (c < lifted_places) × (4 * lifted_places ≤ length lifted.old) }
     ensures { Splits n i destination weight c table.old lifted.old table.new lifted.new }
 {
     let p = table::piece_or_none(table, n, i);
@@ -132,8 +132,8 @@ fn gather(
 
 // The answer where the plan was applied and leaves so many pieces.
 fn answer(order: Order, plan: Plan, count: usize) -> Applied
-    requires { (plan.whole ≤ order.count) × (order.count ≤ mostPlaces) }
-    ensures { result ≡ planAnswer order plan count }
+    requires { (plan.whole ≤ order.count) × (order.count ≤ most_places) }
+    ensures { result ≡ plan_answer order plan count }
 {
     let whole = plan.whole as u32;
     if plan.whole < order.count {

@@ -1,12 +1,9 @@
 -- Which names a sheet may have, as one table and one theorem: the bytes at each end of the letters, what may stand behind them, and
 -- names used twice. Assumes nothing.
-use Prim.Native.Nat.{ℕ}
-use mathlib.Core.Path.{◌≡◌, refl}
-use mathlib.Core.Bool.{Bool, true, false}
-use mathlib.Core.List.{List, [], ◌∷◌, map}
-use Rattle.book.specs.Head.{same, allZero}
+use Rattle.std.proofs.Common.{ℕ, ◌≡◌, refl, Bool, true, false, List, [], ◌∷◌, map}
+use Rattle.book.specs.Head.{same, all_zero}
 use Rattle.fields.specs.Bytes.{exists}
-use Rattle.names.specs.Names.{letters, wellFormed, namesOff}
+use Rattle.names.specs.Names.{letters, well_formed, names_off}
 
 -- Names, and whether they are refused.
 pub record Case : Type 0 where
@@ -47,6 +44,6 @@ cases =
     ∷ ill (one 65 ∷ one 66 ∷ one 0x20 ∷ [])
     ∷ []
 
-pub which-names : map (λ c. namesOff c.names) cases ≡ map (λ c. c.off) cases
-unfolding good ill one three eight cases exists wellFormed letters allZero same
-which-names = refl
+pub which_names : map (λ c. names_off c.names) cases ≡ map (λ c. c.off) cases
+unfolding good ill one three eight cases exists well_formed letters all_zero same
+which_names = refl

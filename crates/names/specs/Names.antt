@@ -1,54 +1,54 @@
 -- The names of the vessels: "A name is 8 bytes: 1 to 8 bytes of 21 to 7E hexadecimal, then zeros."
 -- Definitions only. Assumes nothing.
 use Rattle.std.specs.Prelude.{Bool, true, false, not, ◌&&◌, ◌||◌, List, [], ◌∷◌, ℕ, suc, ◌+◌, ltb, leb, get_or, take, drop}
-use Rattle.book.specs.Head.{same, allZero}
+use Rattle.book.specs.Head.{same, all_zero}
 use Rattle.fields.specs.Bytes.{groups, exists}
-use Rattle.fields.specs.Layout.{nameSize}
+use Rattle.fields.specs.Layout.{name_size}
 
 -- a byte of 21 to 7E hexadecimal
-abbrev pub leastLetter : ℕ
-leastLetter = 0x21
+abbrev pub least_letter : ℕ
+least_letter = 0x21
 
-abbrev pub mostLetter : ℕ
-mostLetter = 0x7e
+abbrev pub most_letter : ℕ
+most_letter = 0x7e
 
 abbrev pub graphic : ℕ → Bool
-graphic b = leb leastLetter b && leb b mostLetter
+graphic b = leb least_letter b && leb b most_letter
 
-abbrev pub oneMoreIf : Bool → ℕ → ℕ
-oneMoreIf true n = suc n
-oneMoreIf false n = 0
+abbrev pub one_more_if : Bool → ℕ → ℕ
+one_more_if true n = suc n
+one_more_if false n = 0
 
 -- How many bytes of 21 to 7E hexadecimal a name begins with.
 unfoldable pub letters : List ℕ → ℕ
 letters [] = 0
-letters (b ∷ bs) = oneMoreIf (graphic b) (letters bs)
+letters (b ∷ bs) = one_more_if (graphic b) (letters bs)
 
 -- At least one such byte, then zeros.
-unfoldable pub wellFormed : List ℕ → Bool
-wellFormed name = ltb 0 (letters name) && allZero (drop (letters name) name)
+unfoldable pub well_formed : List ℕ → Bool
+well_formed name = ltb 0 (letters name) && all_zero (drop (letters name) name)
 
 -- The name without its zeros.
-abbrev pub shortName : List ℕ → List ℕ
-shortName name = take (letters name) name
+abbrev pub short_name : List ℕ → List ℕ
+short_name name = take (letters name) name
 
 -- The names of `vessels` vessels, eight bytes each.
-abbrev pub namesIn : ℕ → List ℕ → List (List ℕ)
-namesIn vessels l = groups nameSize (take nameSize) vessels l
+abbrev pub names_in : ℕ → List ℕ → List (List ℕ)
+names_in vessels l = groups name_size (take name_size) vessels l
 
 -- The name of vessel i, and those behind it.
 abbrev pub name_at : ℕ → List ℕ → ℕ → List ℕ
-name_at vessels l i = get_or (namesIn vessels l) i []
+name_at vessels l i = get_or (names_in vessels l) i []
 
-abbrev pub namesBehind : ℕ → List ℕ → ℕ → List (List ℕ)
-namesBehind vessels l i = drop (i + 1) (namesIn vessels l)
+abbrev pub names_behind : ℕ → List ℕ → ℕ → List (List ℕ)
+names_behind vessels l i = drop (i + 1) (names_in vessels l)
 
-abbrev pub usedIn : List ℕ → List (List ℕ) → Bool
-usedIn name names = exists (λ n rest. same name n) names
+abbrev pub used_in : List ℕ → List (List ℕ) → Bool
+used_in name names = exists (λ n rest. same name n) names
 
--- "name ill-formed or used twice": a name is off if it is ill-formed, or used again behind.
-abbrev pub nameOff : List ℕ → List (List ℕ) → Bool
-nameOff name rest = not (wellFormed name) || usedIn name rest
+-- "name ill_formed or used twice": a name is off if it is ill_formed, or used again behind.
+abbrev pub name_off : List ℕ → List (List ℕ) → Bool
+name_off name rest = not (well_formed name) || used_in name rest
 
-abbrev pub namesOff : List (List ℕ) → Bool
-namesOff names = exists nameOff names
+abbrev pub names_off : List (List ℕ) → Bool
+names_off names = exists name_off names

@@ -2,9 +2,9 @@
 #![tactic(auto)]
 
 ghost use Rattle.std.specs.Prelude.{◌≡◌, ◌<◌, ◌≤◌, ◌*◌, length};
-ghost use Rattle.book.specs.Head.{same, allZero};
-ghost use Rattle.fields.specs.Layout.{nameSize};
-ghost use Rattle.names.specs.Names.{graphic, letters, wellFormed, namesIn, name_at, namesBehind, usedIn, nameOff, namesOff};
+ghost use Rattle.book.specs.Head.{same, all_zero};
+ghost use Rattle.fields.specs.Layout.{name_size};
+ghost use Rattle.names.specs.Names.{graphic, letters, well_formed, names_in, name_at, names_behind, used_in, name_off, names_off};
 
 use fields::layout::NAME_SIZE;
 
@@ -36,7 +36,7 @@ pub fn letter_count(name: &[u8]) -> usize
 }
 
 fn all_zeros(tail: &[u8]) -> bool
-    ensures { result ≡ allZero tail.now }
+    ensures { result ≡ all_zero tail.now }
 {
     let mut i: usize = 0;
     while i < tail.len() {
@@ -49,7 +49,7 @@ fn all_zeros(tail: &[u8]) -> bool
 }
 
 fn well_formed(name: &[u8]) -> bool
-    ensures { result ≡ wellFormed name.now }
+    ensures { result ≡ well_formed name.now }
 {
     let n = letter_count(name);
     if n == 0 {
@@ -60,7 +60,7 @@ fn well_formed(name: &[u8]) -> bool
 
 // Whether vessels i and j have the same eight bytes.
 fn same_name(names: &[u8], vessels: usize, i: usize, j: usize) -> bool
-    requires { (i < vessels) × (j < vessels) × (nameSize * vessels ≤ length names.now) }
+    requires { (i < vessels) × (j < vessels) × (name_size * vessels ≤ length names.now) }
     ensures { result ≡ same (name_at vessels names.now i) (name_at vessels names.now j) }
 {
     let a = NAME_SIZE * i;
@@ -72,8 +72,8 @@ fn same_name(names: &[u8], vessels: usize, i: usize, j: usize) -> bool
 
 // Whether a vessel behind vessel i has the same name.
 fn used_again(names: &[u8], vessels: usize, i: usize) -> bool
-    requires { (i < vessels) × (nameSize * vessels ≤ length names.now) }
-    ensures { result ≡ usedIn (name_at vessels names.now i) (namesBehind vessels names.now i) }
+    requires { (i < vessels) × (name_size * vessels ≤ length names.now) }
+    ensures { result ≡ used_in (name_at vessels names.now i) (names_behind vessels names.now i) }
 {
     let mut j = i + 1;
     while j < vessels {
@@ -87,8 +87,8 @@ fn used_again(names: &[u8], vessels: usize, i: usize) -> bool
 
 // Whether the name of vessel i is ill-formed, or used again behind it.
 fn name_off(names: &[u8], vessels: usize, i: usize) -> bool
-    requires { (i < vessels) × (nameSize * vessels ≤ length names.now) }
-    ensures { result ≡ nameOff (name_at vessels names.now i) (namesBehind vessels names.now i) }
+    requires { (i < vessels) × (name_size * vessels ≤ length names.now) }
+    ensures { result ≡ name_off (name_at vessels names.now i) (names_behind vessels names.now i) }
 {
     let a = NAME_SIZE * i;
     let end = a + NAME_SIZE;
@@ -100,8 +100,8 @@ fn name_off(names: &[u8], vessels: usize, i: usize) -> bool
 
 // Whether a name is ill-formed or used twice.
 pub fn names_off(names: &[u8], vessels: usize) -> bool
-    requires { nameSize * vessels ≤ length names.now }
-    ensures { result ≡ namesOff (namesIn vessels names.now) }
+    requires { name_size * vessels ≤ length names.now }
+    ensures { result ≡ names_off (names_in vessels names.now) }
 {
     let mut i: usize = 0;
     while i < vessels {

@@ -2,39 +2,34 @@
 -- behind it close up at once. So at each pick the pieces of `taken` are those that stay in the plan, and the pick is the first key of the order
 -- (proofs/Picks.antt).
 -- Assumes nothing.
-use mathlib.Core.Path.{◌≡◌, refl, sym, ap, ◌∙◌}
-use mathlib.Core.Logic.{◌≢◌}
-use mathlib.Core.Bool.{Bool, true, false, cond}
-use mathlib.Core.List.{List, [], ◌∷◌, ◌++◌, reverse-append}
-use Prim.Native.Nat.{ℕ, zero, suc, ◌+◌, ◌-◌, ◌≤◌, ◌<◌, min}
+use Rattle.std.proofs.Common.{◌≡◌, refl, sym, ap, ◌∙◌, ◌≢◌, Bool, true, false, cond, List, [], ◌∷◌, ◌++◌, ℕ, zero, suc, ◌+◌, ◌-◌, ◌≤◌, ◌<◌, min, arith, leb, eqb, length, get_or, set, length-append, eqb-true, ne_eqb}
+use mathlib.Core.List.{reverse-append}
 use native.Mathlib.Nat.{sub-zero}
-use native.Mathlib.Omega.{arith}
-use lib.Dec.{leb, eqb}
-use lib.ListN.{length, get_or, set, length-append, length-reverse}
+use lib.ListN.{length-reverse}
 use lib.Seq.{get_or_at, set_at, set-get_or}
-use borrow.Author.Tests.{eqb-true, eqb-false, ne_eqb}
+use borrow.Author.Tests.{eqb-false}
 use Rattle.table.specs.declared.Piece.{Piece}
-use Rattle.table.specs.Pieces.{no_piece, ofWeight, All}
-use Rattle.table.specs.Table.{mostPlaces}
+use Rattle.table.specs.Pieces.{no_piece, of_weight, All}
+use Rattle.table.specs.Table.{most_places}
 use Rattle.table.specs.Closing.{VACANT, vacated, Present, stay}
-use Rattle.table.proofs.ClosingUp.{stay-append, stay_all}
-use Rattle.sorting.proofs.Laws.{length-sort}
+use Rattle.table.proofs.ClosingUp.{stay_append, stay_all}
+use Rattle.sorting.proofs.Laws.{length_sort}
 use Rattle.picking.specs.declared.plan.Plan.{Plan}
 use Rattle.taking.specs.Selection.{Found, nothing, at, behind, against, select}
 use Rattle.taking.specs.declared.Move.{Move}
-use Rattle.taking.specs.Taking.{Taken, stop, oneWhole, takeFrom, takeFound, takeNext, takeUpTo, taken}
-use Rattle.picking.specs.Plan.{byBirth, backwards, key_of, place_of, atKey, keys_of, turned, order_of, vacateAt, vacateAll, picked, halt, planFrom, reduced, takenBy, planned}
-use Rattle.picking.proofs.Picks.{prefers, rule-is, place-key, Headed, Picked, picks_first}
+use Rattle.taking.specs.Taking.{Taken, stop, one_whole, take_from, take_found, take_next, take_up_to, taken}
+use Rattle.picking.specs.Plan.{by_birth, backwards, key_of, place_of, at_key, keys_of, turned, order_of, vacate_at, vacate_all, picked, halt, plan_from, reduced, taken_by, planned}
+use Rattle.picking.proofs.Picks.{prefers, rule_is, place_key, Headed, Picked, picks_first}
 
 -- a selection, where only the pieces that stay are there
 abbrev seen : Found → Found
 seen nothing = nothing
 seen (at b x a) = at (stay b) x (stay a)
 
-select-stay : (better : Piece → Piece → Bool) (s : ℕ) → s ≢ VACANT → (ms : List Piece) → select better s (stay ms) ≡ seen (select better s ms)
+select_stay : (better : Piece → Piece → Bool) (s : ℕ) → s ≢ VACANT → (ms : List Piece) → select better s (stay ms) ≡ seen (select better s ms)
 unfolding stay
-select-stay better s apart [] = refl
-select-stay better s apart (p ∷ ms) = go (eqb p.holder VACANT) refl (select-stay better s apart ms)
+select_stay better s apart [] = refl
+select_stay better s apart (p ∷ ms) = go (eqb p.holder VACANT) refl (select_stay better s apart ms)
   where
     here : (c : Bool) (f : Found) → eqb p.holder VACANT ≡ false
         → cond c (against better p (stay ms) (seen f)) (behind p (seen f)) ≡ seen (cond c (against better p ms f) (behind p f))
@@ -63,7 +58,7 @@ Starts old back s ms (at b x a) =
     (k : ℕ) × (ms ≡ b ++ (x ∷ a)) × (x.holder ≡ s) × (place_of k ≡ length b)
     × (order_of old back s 0 ms ≡ k ∷ order_of old back s 0 (b ++ (vacated x ∷ a)))
 
-starts : (old back : Bool) (s : ℕ) → s ≢ VACANT → (ms : List Piece) → length ms ≤ mostPlaces → Starts old back s ms (select (prefers old back) s ms)
+starts : (old back : Bool) (s : ℕ) → s ≢ VACANT → (ms : List Piece) → length ms ≤ most_places → Starts old back s ms (select (prefers old back) s ms)
 starts old back s apart ms h = go back (select (prefers old back) s ms) (picks_first old s apart back 0 ms (omega arith))
   where
     order : (back : Bool) (k : ℕ) (ks ts : List ℕ) → Headed back k ks ts → turned back ks ≡ k ∷ turned back ts
@@ -77,21 +72,21 @@ starts old back s apart ms h = go back (select (prefers old back) s ms) (picks_f
     go : (back : Bool) (f : Found) → Picked old s apart back 0 ms f → Starts old back s ms f
     go back nothing u = empty back _ u
     go back (at b x a) (g, hx, u) =
-        let l : length b < mostPlaces = omega (arith, ap length g, length-append b (x ∷ a)) in
+        let l : length b < most_places = omega (arith, ap length g, length-append b (x ∷ a)) in
         let z : 0 + length b ≡ length b = omega arith in
-        (key_of old (0 + length b) x, g, hx, rw z (place-key old (length b) x l), order back _ _ _ u)
+        (key_of old (0 + length b) x, g, hx, rw z (place_key old (length b) x l), order back _ _ _ u)
 
 -- The plan: counted from further on; and it looks at weights only.
 abbrev further : Plan → Plan
 further r = record { whole = suc r.whole; left = r.left }
 
-plan-suc : (ks : List ℕ) (c want : ℕ) (ps : List Piece) → planFrom (suc c) ks want ps ≡ further (planFrom c ks want ps)
-unfolding planFrom
-plan-suc [] c want ps = refl
-plan-suc (k ∷ ks) c want ps = go (eqb want 0) (leb w want) _ _ (plan-suc ks (suc c) (want - w) ps)
+plan_suc : (ks : List ℕ) (c want : ℕ) (ps : List Piece) → plan_from (suc c) ks want ps ≡ further (plan_from c ks want ps)
+unfolding plan_from
+plan_suc [] c want ps = refl
+plan_suc (k ∷ ks) c want ps = go (eqb want 0) (leb w want) _ _ (plan_suc ks (suc c) (want - w) ps)
   where
     w : ℕ
-    w = (atKey ps k).weight
+    w = (at_key ps k).weight
 
     go : (u t : Bool) (r q : Plan) → q ≡ further r
         → cond u (halt (suc c) want) (cond t q (halt (suc c) want)) ≡ further (cond u (halt c want) (cond t r (halt c want)))
@@ -99,33 +94,33 @@ plan-suc (k ∷ ks) c want ps = go (eqb want 0) (leb w want) _ _ (plan-suc ks (s
     go false true r q e = e
     go false false r q e = refl
 
-weight-vacated : (i j : ℕ) (ps : List Piece) → (get_or (vacateAt i ps) j no_piece).weight ≡ (get_or ps j no_piece).weight
-weight-vacated i j [] = refl
-weight-vacated zero zero (p ∷ ps) = refl
-weight-vacated zero (suc j) (p ∷ ps) = refl
-weight-vacated (suc i) zero (p ∷ ps) = refl
-weight-vacated (suc i) (suc j) (p ∷ ps) = weight-vacated i j ps
+weight_vacated : (i j : ℕ) (ps : List Piece) → (get_or (vacate_at i ps) j no_piece).weight ≡ (get_or ps j no_piece).weight
+weight_vacated i j [] = refl
+weight_vacated zero zero (p ∷ ps) = refl
+weight_vacated zero (suc j) (p ∷ ps) = refl
+weight_vacated (suc i) zero (p ∷ ps) = refl
+weight_vacated (suc i) (suc j) (p ∷ ps) = weight_vacated i j ps
 
-plan-vacated : (i : ℕ) (ks : List ℕ) (c want : ℕ) (ps : List Piece) → planFrom c ks want (vacateAt i ps) ≡ planFrom c ks want ps
-unfolding planFrom
-plan-vacated i [] c want ps = refl
-plan-vacated i (k ∷ ks) c want ps = rw (weight-vacated, plan-vacated i ks)
+plan_vacated : (i : ℕ) (ks : List ℕ) (c want : ℕ) (ps : List Piece) → plan_from c ks want (vacate_at i ps) ≡ plan_from c ks want ps
+unfolding plan_from
+plan_vacated i [] c want ps = refl
+plan_vacated i (k ∷ ks) c want ps = rw (weight_vacated, plan_vacated i ks)
 
 -- one key more goes whole
-takenBy-suc : (k : ℕ) (ks : List ℕ) (ps : List Piece) (r : Plan) → takenBy (k ∷ ks) ps (further r)
-    ≡ oneWhole (atKey ps k) (takenBy ks (vacateAt (place_of k) ps) r)
-unfolding vacateAll picked
-takenBy-suc k ks ps r = refl
+taken_by_suc : (k : ℕ) (ks : List ℕ) (ps : List Piece) (r : Plan) → taken_by (k ∷ ks) ps (further r)
+    ≡ one_whole (at_key ps k) (taken_by ks (vacate_at (place_of k) ps) r)
+unfolding vacate_all picked
+taken_by_suc k ks ps r = refl
 
 -- nothing more is wanted
-pub reduced-zero : (ks : List ℕ) (ps : List Piece) → reduced 0 ks ps ≡ ps
-reduced-zero [] ps = refl
-reduced-zero (k ∷ ks) ps = rw (sub-zero (atKey ps k).weight) (set-get_or ps (place_of k) no_piece)
+pub reduced_zero : (ks : List ℕ) (ps : List Piece) → reduced 0 ks ps ≡ ps
+reduced_zero [] ps = refl
+reduced_zero (k ∷ ks) ps = rw (sub-zero (at_key ps k).weight) (set-get_or ps (place_of k) no_piece)
 
-reached : (ks : List ℕ) (want : ℕ) (ps : List Piece) → want ≡ 0 → stop want (stay ps) ≡ takenBy ks ps (planFrom 0 ks want ps)
-unfolding planFrom vacateAll picked
+reached : (ks : List ℕ) (want : ℕ) (ps : List Piece) → want ≡ 0 → stop want (stay ps) ≡ taken_by ks ps (plan_from 0 ks want ps)
+unfolding plan_from vacate_all picked
 reached [] want ps e = refl
-reached (k ∷ ks) want ps e = rw (e, reduced-zero (k ∷ ks) ps)
+reached (k ∷ ks) want ps e = rw (e, reduced_zero (k ∷ ks) ps)
 
 -- x is picked between b and a, and k is its key
 module _ (more : ℕ → List Piece → Taken) (s want : ℕ) (b : List Piece) (x : Piece) (a : List Piece) (k : ℕ) (ks : List ℕ)
@@ -133,22 +128,22 @@ module _ (more : ℕ → List Piece → Taken) (s want : ℕ) (b : List Piece) (
   abbrev all : List Piece
   all = b ++ (x ∷ a)
 
-  there : atKey all k ≡ x
+  there : at_key all k ≡ x
   there = get_or_at b x a no_piece (place_of k) (sym pk)
 
   put : (y : Piece) → set all (place_of k) y ≡ b ++ (y ∷ a)
   put y = set_at b x a y (place_of k) (sym pk)
 
-  gone : vacateAt (place_of k) all ≡ b ++ (vacated x ∷ a)
+  gone : vacate_at (place_of k) all ≡ b ++ (vacated x ∷ a)
   gone = rw there (put (vacated x))
 
-  stay-gone : stay (b ++ (vacated x ∷ a)) ≡ stay b ++ stay a
+  stay_gone : stay (b ++ (vacated x ∷ a)) ≡ stay b ++ stay a
   unfolding stay
-  stay-gone = stay-append b (vacated x ∷ a)
+  stay_gone = stay_append b (vacated x ∷ a)
 
-  stay-put : (y : Piece) → y.holder ≡ s → stay (b ++ (y ∷ a)) ≡ stay b ++ (y ∷ stay a)
+  stay_put : (y : Piece) → y.holder ≡ s → stay (b ++ (y ∷ a)) ≡ stay b ++ (y ∷ stay a)
   unfolding stay
-  stay-put y e = stay-append b (y ∷ a) ∙ rw (ne_eqb y.holder VACANT (λ z. apart (sym e ∙ z)))
+  stay_put y e = stay_append b (y ∷ a) ∙ rw (ne_eqb y.holder VACANT (λ z. apart (sym e ∙ z)))
 
   abbrev less : List Piece
   less = b ++ (vacated x ∷ a)
@@ -156,21 +151,21 @@ module _ (more : ℕ → List Piece → Taken) (s want : ℕ) (b : List Piece) (
   abbrev rest : ℕ
   rest = want - x.weight
 
-  turn : (t : Bool) → leb x.weight want ≡ t → more rest (stay less) ≡ takenBy ks less (planFrom 0 ks rest less)
-      → takeFrom more want (stay b) x (stay a) t ≡ takenBy (k ∷ ks) all (planFrom 0 (k ∷ ks) want all)
-  unfolding planFrom vacateAll picked
+  turn : (t : Bool) → leb x.weight want ≡ t → more rest (stay less) ≡ taken_by ks less (plan_from 0 ks rest less)
+      → take_from more want (stay b) x (stay a) t ≡ taken_by (k ∷ ks) all (plan_from 0 (k ∷ ks) want all)
+  unfolding plan_from vacate_all picked
   turn true e i =
-      let p : planFrom 0 (k ∷ ks) want all ≡ planFrom 1 ks rest all = rw (ne_eqb _ _ wanted, there, e) in
-      let q : planFrom 0 ks rest less ≡ planFrom 0 ks rest all = rw (← gone) (plan-vacated (place_of k) ks 0 rest all) in
-      let o : takenBy (k ∷ ks) all (planFrom 1 ks rest all) ≡ oneWhole (atKey all k) (takenBy ks (vacateAt (place_of k) all) (planFrom 0 ks rest all)) =
-      ap (takenBy (k ∷ ks) all) (plan-suc ks 0 rest all) ∙ takenBy-suc k ks all _ in
-      ap (λ (l : List Piece). oneWhole x (more rest l)) (sym stay-gone)
-      ∙ ap (oneWhole x) (i ∙ ap (takenBy ks less) q)
-      ∙ sym (ap (takenBy (k ∷ ks) all) p ∙ o ∙ rw (gone, there))
+      let p : plan_from 0 (k ∷ ks) want all ≡ plan_from 1 ks rest all = rw (ne_eqb _ _ wanted, there, e) in
+      let q : plan_from 0 ks rest less ≡ plan_from 0 ks rest all = rw (← gone) (plan_vacated (place_of k) ks 0 rest all) in
+      let o : taken_by (k ∷ ks) all (plan_from 1 ks rest all) ≡ one_whole (at_key all k) (taken_by ks (vacate_at (place_of k) all) (plan_from 0 ks rest all)) =
+      ap (taken_by (k ∷ ks) all) (plan_suc ks 0 rest all) ∙ taken_by_suc k ks all _ in
+      ap (λ (l : List Piece). one_whole x (more rest l)) (sym stay_gone)
+      ∙ ap (one_whole x) (i ∙ ap (taken_by ks less) q)
+      ∙ sym (ap (taken_by (k ∷ ks) all) p ∙ o ∙ rw (gone, there))
   turn false e i =
-      let p : planFrom 0 (k ∷ ks) want all ≡ halt 0 want = rw (ne_eqb _ _ wanted, there, e) in
-      let o : stay (reduced want (k ∷ ks) all) ≡ stay b ++ (ofWeight (x.weight - want) x ∷ stay a) =
-      rw (there, put) (stay-put (ofWeight (x.weight - want) x) hx) in
+      let p : plan_from 0 (k ∷ ks) want all ≡ halt 0 want = rw (ne_eqb _ _ wanted, there, e) in
+      let o : stay (reduced want (k ∷ ks) all) ≡ stay b ++ (of_weight (x.weight - want) x ∷ stay a) =
+      rw (there, put) (stay_put (of_weight (x.weight - want) x) hx) in
       let m : min 1 want ≡ 1 = omega arith in
       rw p (rw (o, there, ne_eqb _ _ wanted, m))
 
@@ -182,37 +177,37 @@ module _ (old back : Bool) (s : ℕ) (apart : s ≢ VACANT) where
   order ms = order_of old back s 0 ms
 
   abbrev planning : ℕ → List Piece → Taken
-  planning want ms = takenBy (order ms) ms (planFrom 0 (order ms) want ms)
+  planning want ms = taken_by (order ms) ms (plan_from 0 (order ms) want ms)
 
   abbrev Same : ℕ → Type 0
-  Same n = (want : ℕ) (ms : List Piece) → length ms ≤ mostPlaces → length (order ms) ≤ n → takeUpTo pick n want (stay ms) ≡ planning want ms
+  Same n = (want : ℕ) (ms : List Piece) → length ms ≤ most_places → length (order ms) ≤ n → take_up_to pick n want (stay ms) ≡ planning want ms
 
   same : (n : ℕ) → Same n
-  unfolding takeUpTo planFrom vacateAll picked
+  unfolding take_up_to plan_from vacate_all picked
   same zero want ms h f = go (order ms) f
     where
-      go : (ks : List ℕ) → length ks ≤ 0 → stop want (stay ms) ≡ takenBy ks ms (planFrom 0 ks want ms)
+      go : (ks : List ℕ) → length ks ≤ 0 → stop want (stay ms) ≡ taken_by ks ms (plan_from 0 ks want ms)
       go [] f = refl
       go (k ∷ ks) f = absurd (omega arith)
   same (suc n) want ms h f = next (eqb want 0) refl (same n)
     where
-      found : want ≢ 0 → (x : Found) → Starts old back s ms x → Same n → takeFound (takeUpTo pick n) want (stay ms) (seen x) ≡ planning want ms
+      found : want ≢ 0 → (x : Found) → Starts old back s ms x → Same n → take_found (take_up_to pick n) want (stay ms) (seen x) ≡ planning want ms
       found w nothing e i = rw e
       found w (at b x a) (k, g, hx, pk, e) i =
           let ls : List Piece = b ++ (vacated x ∷ a) in
-          let short : length ls ≤ mostPlaces = simp length-append (omega (arith, simp length-append at (ap length g))) in
+          let short : length ls ≤ most_places = simp length-append (omega (arith, simp length-append at (ap length g))) in
           let fuel : length (order ls) ≤ n = omega (arith, ap length e) in
-          rw (e, g) (turn (takeUpTo pick n) s want b x a k (order ls) apart w hx pk (leb x.weight want) refl (i (want - x.weight) ls short fuel))
+          rw (e, g) (turn (take_up_to pick n) s want b x a k (order ls) apart w hx pk (leb x.weight want) refl (i (want - x.weight) ls short fuel))
 
-      next : (t : Bool) → eqb want 0 ≡ t → Same n → takeNext pick (takeUpTo pick n) want (stay ms) t ≡ planning want ms
+      next : (t : Bool) → eqb want 0 ≡ t → Same n → take_next pick (take_up_to pick n) want (stay ms) t ≡ planning want ms
       next true e i = reached (order ms) want ms (eqb-true _ _ e)
-      next false e i = rw (select-stay (prefers old back) s apart ms) (found (eqb-false _ _ e) (pick ms) (starts old back s apart ms h) i)
+      next false e i = rw (select_stay (prefers old back) s apart ms) (found (eqb-false _ _ e) (pick ms) (starts old back s apart ms h) i)
 
 -- as many keys as pieces, at most
-length-keys : (old : Bool) (s i : ℕ) (ps : List Piece) → length (keys_of old s i ps) ≤ length ps
+length_keys : (old : Bool) (s i : ℕ) (ps : List Piece) → length (keys_of old s i ps) ≤ length ps
 unfolding keys_of
-length-keys old s i [] = omega arith
-length-keys old s i (p ∷ ps) = go (eqb p.holder s) (length-keys old s (suc i) ps)
+length_keys old s i [] = omega arith
+length_keys old s i (p ∷ ps) = go (eqb p.holder s) (length_keys old s (suc i) ps)
   where
     more : List ℕ
     more = keys_of old s (suc i) ps
@@ -221,17 +216,17 @@ length-keys old s i (p ∷ ps) = go (eqb p.holder s) (length-keys old s (suc i) 
     go true e = omega arith
     go false e = omega arith
 
-length-order : (old back : Bool) (s i : ℕ) (ps : List Piece) → length (order_of old back s i ps) ≤ length ps
-length-order old true s i ps = rw (length-reverse, length-sort) (length-keys old s i ps)
-length-order old false s i ps = rw length-sort (length-keys old s i ps)
+length_order : (old back : Bool) (s i : ℕ) (ps : List Piece) → length (order_of old back s i ps) ≤ length ps
+length_order old true s i ps = rw (length-reverse, length_sort) (length_keys old s i ps)
+length_order old false s i ps = rw length_sort (length_keys old s i ps)
 
 -- The theorem.
-pub taken-planned : (rule : ℕ) (x : Move) (ps : List Piece) → x.source < VACANT → length ps ≤ mostPlaces → All Present ps
+pub taken_planned : (rule : ℕ) (x : Move) (ps : List Piece) → x.source < VACANT → length ps ≤ most_places → All Present ps
     → taken rule x ps ≡ planned rule x ps
 unfolding taken planned
-taken-planned rule x ps hs h u =
-    let old = byBirth rule in
+taken_planned rule x ps hs h u =
+    let old = by_birth rule in
     let back = backwards rule in
     let apart : x.source ≢ VACANT = λ e. omega arith in
-    ap (λ (better : Piece → Piece → Bool). takeUpTo (select better x.source) (length ps) x.weight ps) (rule-is rule)
-    ∙ (rw (stay_all ps u) at (same old back x.source apart (length ps) x.weight ps h (length-order old back x.source 0 ps)))
+    ap (λ (better : Piece → Piece → Bool). take_up_to (select better x.source) (length ps) x.weight ps) (rule_is rule)
+    ∙ (rw (stay_all ps u) at (same old back x.source apart (length ps) x.weight ps h (length_order old back x.source 0 ps)))

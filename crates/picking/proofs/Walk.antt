@@ -1,43 +1,38 @@
 -- The plan's walk: c keys of the order are behind, `left` is still wanted, and the plan from here on is the plan z from the start.
 -- Assumes nothing.
-use mathlib.Core.Path.{◌≡◌, sym, ap, ◌∙◌}
-use mathlib.Core.List.{List, ◌∷◌}
-use Prim.Native.Nat.{ℕ, suc, ◌+◌, ◌-◌, ◌≤◌, ◌<◌}
-use native.Mathlib.Numerals.{add-one}
-use lib.ListN.{length, get_or, drop, drop_of_length-le}
-use lib.Seq.{drop-cons}
-use borrow.Author.Tests.{eq-eqb, ne_eqb, le-leb, lt-leb}
+use Rattle.std.proofs.Common.{◌≡◌, sym, ap, ◌∙◌, List, ◌∷◌, ℕ, suc, ◌+◌, ◌-◌, ◌≤◌, ◌<◌, add-one, length, get_or, drop, drop_of_length-le, drop-cons, eq-eqb, ne_eqb, le-leb}
+use borrow.Author.Tests.{lt-leb}
 use Rattle.table.specs.declared.Piece.{Piece}
-use Rattle.table.specs.Table.{mostPlaces, pieces_of, pieceIn}
+use Rattle.table.specs.Table.{most_places, pieces_of, piece_in}
 use Rattle.picking.specs.declared.selection.Order.{Order}
 use Rattle.picking.specs.declared.plan.Plan.{Plan}
-use Rattle.picking.specs.Plan.{place_of, inOrder, planFrom}
-use Rattle.picking.proofs.Keys.{length-inOrder}
+use Rattle.picking.specs.Plan.{place_of, in_order, plan_from}
+use Rattle.picking.proofs.Keys.{length_in_order}
 
-module _ (o : Order) (n c left : ℕ) (t keys : List ℕ) (z : Plan) (hm : o.count ≤ mostPlaces) (l : length keys ≡ mostPlaces) where
+module _ (o : Order) (n c left : ℕ) (t keys : List ℕ) (z : Plan) (hm : o.count ≤ most_places) (l : length keys ≡ most_places) where
   abbrev ks : List ℕ
-  ks = inOrder o keys
+  ks = in_order o keys
 
-  module _ (h : c < o.count) (e : planFrom c (drop c ks) left (pieces_of n t) ≡ z) where
-    here : planFrom c (get_or ks c 0 ∷ drop (suc c) ks) left (pieces_of n t) ≡ z
-    here = rw (drop-cons ks c 0 (rw (length-inOrder o keys hm l) h)) at e
+  module _ (h : c < o.count) (e : plan_from c (drop c ks) left (pieces_of n t) ≡ z) where
+    here : plan_from c (get_or ks c 0 ∷ drop (suc c) ks) left (pieces_of n t) ≡ z
+    here = rw (drop-cons ks c 0 (rw (length_in_order o keys hm l) h)) at e
 
-    pub plan-reached : left ≡ 0 → record { whole = c; left = left } ≡ z
-    unfolding planFrom
-    plan-reached g = rw (eq-eqb _ _ g) at here
+    pub plan_reached : left ≡ 0 → record { whole = c; left = left } ≡ z
+    unfolding plan_from
+    plan_reached g = rw (eq-eqb _ _ g) at here
 
-    module _ (i : ℕ) (p : Piece) (more : left ≡ 0 → ⊥) (ei : i ≡ place_of (get_or ks c 0)) (ep : p ≡ pieceIn n t i) where
-      seen : pieceIn n t (place_of (get_or ks c 0)) ≡ p
-      seen = sym (ep ∙ ap (pieceIn n t) ei)
+    module _ (i : ℕ) (p : Piece) (more : left ≡ 0 → ⊥) (ei : i ≡ place_of (get_or ks c 0)) (ep : p ≡ piece_in n t i) where
+      seen : piece_in n t (place_of (get_or ks c 0)) ≡ p
+      seen = sym (ep ∙ ap (piece_in n t) ei)
 
-      pub plan-next : p.weight ≤ left → planFrom (c + 1) (drop (c + 1) ks) (left - p.weight) (pieces_of n t) ≡ z
-      unfolding planFrom
-      plan-next g = rw add-one (rw (ne_eqb _ _ more, seen, le-leb _ _ g) at here)
+      pub plan_next : p.weight ≤ left → plan_from (c + 1) (drop (c + 1) ks) (left - p.weight) (pieces_of n t) ≡ z
+      unfolding plan_from
+      plan_next g = rw add-one (rw (ne_eqb _ _ more, seen, le-leb _ _ g) at here)
 
-      pub plan-stop : left < p.weight → record { whole = c; left = left } ≡ z
-      unfolding planFrom
-      plan-stop g = rw (ne_eqb _ _ more, seen, lt-leb _ _ g) at here
+      pub plan_stop : left < p.weight → record { whole = c; left = left } ≡ z
+      unfolding plan_from
+      plan_stop g = rw (ne_eqb _ _ more, seen, lt-leb _ _ g) at here
 
-  pub plan-end : o.count ≤ c → planFrom c (drop c ks) left (pieces_of n t) ≡ z → record { whole = c; left = left } ≡ z
-  unfolding planFrom
-  plan-end g e = rw (drop_of_length-le ks {i = c} (rw (length-inOrder o keys hm l) g)) at e
+  pub plan_end : o.count ≤ c → plan_from c (drop c ks) left (pieces_of n t) ≡ z → record { whole = c; left = left } ≡ z
+  unfolding plan_from
+  plan_end g e = rw (drop_of_length-le ks {i = c} (rw (length_in_order o keys hm l) g)) at e

@@ -1,7 +1,7 @@
 // The plan of a transfer. Nothing is written.
 ghost use Rattle.std.specs.Prelude.{◌≡◌, cond, false, ◌≤◌, ◌*◌, eqb, leb, length};
-ghost use Rattle.table.specs.Table.{mostPlaces, pieces_of};
-ghost use Rattle.picking.specs.Plan.{inOrder, planFrom};
+ghost use Rattle.table.specs.Table.{most_places, pieces_of};
+ghost use Rattle.picking.specs.Plan.{in_order, plan_from};
 
 use crate::selection::{Order, nth};
 
@@ -14,8 +14,8 @@ pub struct Plan {
 
 // The plan for a weight, with the keys in order.
 pub fn plan_of(table: &[u32], n: usize, keys: &[u64], order: Order, weight: u32) -> Plan
-    requires { (order.count ≤ mostPlaces) × (4 * n ≤ length table.now) × (length keys.now ≡ mostPlaces) }
-    ensures { result ≡ planFrom 0 (inOrder order keys.now) weight (pieces_of n table.now) }
+    requires { (order.count ≤ most_places) × (4 * n ≤ length table.now) × (length keys.now ≡ most_places) }
+    ensures { result ≡ plan_from 0 (in_order order keys.now) weight (pieces_of n table.now) }
 {
     let mut left = weight;
     let mut c: usize = 0;

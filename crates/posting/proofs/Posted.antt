@@ -1,23 +1,14 @@
 -- The calls: what the checks of a transfer, a lift and a tip tell lets their motion be carried, and what is answered then is the call on head and
 -- table. A transfer and a lift are one law, over the checks and the motion of what takes weight from a vessel.
 -- Assumes nothing.
-use mathlib.Core.Path.{◌≡◌, refl, sym, ap, ◌∙◌}
-use mathlib.Core.Bool.{Bool, true, false, cond}
-use mathlib.Core.List.{List, [], ◌∷◌}
-use Prim.Native.Nat.{ℕ, zero, suc, ◌≤◌, ◌<◌}
-use native.Mathlib.Omega.{arith}
-use mir.Syntax.{w32}
-use mir.Val.{Fits}
-use lib.Dec.{T, eqb}
-use lib.ListN.{length}
-use borrow.Author.Tests.{le-ltb}
+use Rattle.std.proofs.Common.{◌≡◌, refl, sym, ap, ◌∙◌, Bool, true, false, cond, List, [], ◌∷◌, ℕ, zero, suc, ◌≤◌, ◌<◌, arith, w32, Fits, T, eqb, length, le-ltb}
 use Rattle.table.specs.Pieces.{held}
 use Rattle.table.specs.Table.{pieces_of, places_of}
 use Rattle.table.proofs.Pieces.{all_map}
 use Rattle.taking.specs.Taking.{taken}
-use Rattle.moving.specs.Applied.{full, applied, tableLeft}
+use Rattle.moving.specs.Applied.{full, applied, table_left}
 use Rattle.refusal.specs.Numbers.{Check, ◌if◌, first, ifZero}
-use Rattle.refusal.proofs.Numbers.{named, not-zero, first-append}
+use Rattle.refusal.proofs.Numbers.{named, not_zero, first_append}
 use Rattle.book.specs.declared.Head.{Head}
 use Rattle.book.specs.declared.Transfer.{Transfer}
 use Rattle.book.specs.declared.Lift.{Lift}
@@ -25,42 +16,42 @@ use Rattle.book.specs.declared.Tip.{Tip}
 use Rattle.book.specs.declared.Motion.{Motion}
 use Rattle.book.specs.declared.Transferred.{Transferred}
 use Rattle.book.specs.declared.Tipped.{Tipped}
-use Rattle.book.specs.Head.{Book, theScale, mostHolders, Sized, balanceAt, bookOf}
-use Rattle.book.specs.Motion.{Standing, ofBook, ofHead, takes, piecesAfter}
-use Rattle.book.specs.Transfer.{transferChecks, motionOf}
-use Rattle.book.specs.Scale.{liftChecks, tipChecks, liftMotion, tipMotion, asTheyLie}
-use Rattle.book.specs.Calls.{Call, post, lift, tip, tipOn, Meaning, taking, meaning}
-use Rattle.book.specs.Memory.{bookChecks, number_of, outcome}
+use Rattle.book.specs.Head.{Book, the_scale, most_holders, Sized, balance_at, book_of}
+use Rattle.book.specs.Motion.{Standing, of_book, of_head, takes, pieces_after}
+use Rattle.book.specs.Transfer.{transfer_checks, motion_of}
+use Rattle.book.specs.Scale.{lift_checks, tip_checks, lift_motion, tip_motion, as_they_lie}
+use Rattle.book.specs.Calls.{Call, post, lift, tip, tip_on, Meaning, taking, meaning}
+use Rattle.book.specs.Memory.{book_checks, number_of, outcome}
 use Rattle.book.proofs.BalanceLaws.{Holders}
-use Rattle.book.proofs.Checks.{Fit, fit, LiftFit, lift-fit, TipFit, tip-fit}
-use Rattle.book.proofs.Sound.{number, tip-length, keeps}
-use Rattle.book.proofs.Memory.{number_same, no_place, refused-on, accepted-on, off-number}
-use Rattle.book.proofs.Known.{Known, standing-same}
-use Rattle.carrying.specs.Carrying.{Audited, Carriable, refusedWith, Carries}
+use Rattle.book.proofs.Checks.{Fit, fit, LiftFit, lift_fit, TipFit, tip_fit}
+use Rattle.book.proofs.Sound.{number, tip_length, keeps}
+use Rattle.book.proofs.Memory.{number_same, no_place, refused_on, accepted_on, off_number}
+use Rattle.book.proofs.Known.{Known, standing_same}
+use Rattle.carrying.specs.Carrying.{Audited, Carriable, refused_with, Carries}
 use Rattle.posting.specs.Posting.{Posts, Tips}
-use Rattle.carrying.proofs.Next.{work-known, vessels-fit, next-head}
+use Rattle.carrying.proofs.Next.{work_known, vessels_fit, next_head_lem}
 
 -- a call that is refused with number n
-posts-refusal : (h : Head) (t : List ℕ) (c : Call) (n : ℕ) (z : Transferred) → number_of h t c ≡ n → (n ≡ 0 → ⊥) → z ≡ refusedWith h n → Posts h c t t z
-posts-refusal h t c n z e nz ez = let r = refused-on h t c n e nz in record { answer = rw r ez; table = rw r }
+posts_refusal : (h : Head) (t : List ℕ) (c : Call) (n : ℕ) (z : Transferred) → number_of h t c ≡ n → (n ≡ 0 → ⊥) → z ≡ refused_with h n → Posts h c t t z
+posts_refusal h t c n z e nz ez = let r = refused_on h t c n e nz in record { answer = rw r ez; table = rw r }
 
-tips-refusal : (h : Head) (t : List ℕ) (y : Tip) (n : ℕ) (z : Tipped) → number_of h t (tip y) ≡ n → (n ≡ 0 → ⊥) → z ≡ record { number = n; head = h } → Tips h y t t z
-tips-refusal h t y n z e nz ez = let r = refused-on h t (tip y) n e nz in record { answer = rw r ez; table = rw r }
+tips_refusal : (h : Head) (t : List ℕ) (y : Tip) (n : ℕ) (z : Tipped) → number_of h t (tip y) ≡ n → (n ≡ 0 → ⊥) → z ≡ record { number = n; head = h } → Tips h y t t z
+tips_refusal h t y n z e nz ez = let r = refused_on h t (tip y) n e nz in record { answer = rw r ez; table = rw r }
 
 -- by 1 or 4
-pub posts-off : (h : Head) (t : List ℕ) (c : Call) (n : ℕ) (z : Transferred) → (n ≡ first (bookChecks h t)) × Sized h → (n ≡ 0 → ⊥) → z ≡ refusedWith h n → Posts h c t t z
-posts-off h t c n z e nz = posts-refusal h t c n z (off-number h t c n e.0 nz) nz
+pub posts_off : (h : Head) (t : List ℕ) (c : Call) (n : ℕ) (z : Transferred) → (n ≡ first (book_checks h t)) × Sized h → (n ≡ 0 → ⊥) → z ≡ refused_with h n → Posts h c t t z
+posts_off h t c n z e nz = posts_refusal h t c n z (off_number h t c n e.0 nz) nz
 
-pub tips-off : (h : Head) (t : List ℕ) (y : Tip) (n : ℕ) (z : Tipped) → (n ≡ first (bookChecks h t)) × Sized h → (n ≡ 0 → ⊥) → z ≡ record { number = n; head = h } → Tips h y t t z
-tips-off h t y n z e nz = tips-refusal h t y n z (off-number h t (tip y) n e.0 nz) nz
+pub tips_off : (h : Head) (t : List ℕ) (y : Tip) (n : ℕ) (z : Tipped) → (n ≡ first (book_checks h t)) × Sized h → (n ≡ 0 → ⊥) → z ≡ record { number = n; head = h } → Tips h y t t z
+tips_off h t y n z e nz = tips_refusal h t y n z (off_number h t (tip y) n e.0 nz) nz
 
 -- On a book known to add up.
 module _ (h : Head) (t : List ℕ) (w : Audited h t) where
   abbrev b : Book
-  b = bookOf h t
+  b = book_of h t
 
   k : Known h t
-  k = work-known h t w
+  k = work_known h t w
 
   number_is : (c : Call) → number_of h t c ≡ first ((meaning c).checks (places_of t) b)
   unfolding number
@@ -68,165 +59,165 @@ module _ (h : Head) (t : List ℕ) (w : Audited h t) where
       let z : eqb (places_of t) 0 ≡ false = sym (no_place t) ∙ le-ltb (length t) 4 w.long in
       number_same (places_of t) h t b k.on k.sound c ∙ rw z
 
-  standing : ofHead h ≡ ofBook b
-  standing = standing-same h t k
+  standing : of_head h ≡ of_book b
+  standing = standing_same h t k
 
   -- What takes weight from a vessel, with these checks and this motion.
-  module _ (c : Call) (checks : Standing → List Check) (m : Motion) (is : meaning c ≡ taking (λ (b : Book). checks (ofBook b)) m) (ok : T (named (checks (ofBook b)))) where
-    abbrev full-now : Bool
-    full-now = full (places_of t) m.moves (taken h.rule m.moves b.pieces)
+  module _ (c : Call) (checks : Standing → List Check) (m : Motion) (is : meaning c ≡ taking (λ (b : Book). checks (of_book b)) m) (ok : T (named (checks (of_book b)))) where
+    abbrev full_now : Bool
+    full_now = full (places_of t) m.moves (taken h.rule m.moves b.pieces)
 
-    number-parts : number_of h t c ≡ ifZero (first (checks (ofBook b))) (cond full-now 11 0) (first (checks (ofBook b)))
+    number_parts : number_of h t c ≡ ifZero (first (checks (of_book b))) (cond full_now 11 0) (first (checks (of_book b)))
     unfolding takes
-    number-parts = number_is c ∙ rw is (first-append (checks (ofBook b)) (11 if full-now ∷ []) ok ∙ go (first (checks (ofBook b))) full-now)
+    number_parts = number_is c ∙ rw is (first_append (checks (of_book b)) (11 if full_now ∷ []) ok ∙ go (first (checks (of_book b))) full_now)
       where
         go : (n : ℕ) (f : Bool) → ifZero n (first (11 if f ∷ [])) n ≡ ifZero n (cond f 11 0) n
         go zero true = refl
         go zero false = refl
         go (suc n) f = refl
 
-    module _ (n : ℕ) (en : n ≡ first (checks (ofHead h))) where
-      own : n ≡ first (checks (ofBook b))
+    module _ (n : ℕ) (en : n ≡ first (checks (of_head h))) where
+      own : n ≡ first (checks (of_book b))
       own = en ∙ ap (λ (g : Standing). first (checks g)) standing
 
-      taking-refused : (n ≡ 0 → ⊥) → (z : Transferred) → z ≡ refusedWith h n → Posts h c t t z
-      taking-refused nz z ez = posts-refusal h t c n z (number-parts ∙ rw (← own) (sym (not-zero n _ n nz))) nz ez
+      taking_refused : (n ≡ 0 → ⊥) → (z : Transferred) → z ≡ refused_with h n → Posts h c t t z
+      taking_refused nz z ez = posts_refusal h t c n z (number_parts ∙ rw (← own) (sym (not_zero n _ n nz))) nz ez
 
-      module _ (zn : n ≡ 0) (source_in : m.moves.source < mostHolders) (destination-in : m.moves.destination < mostHolders)
+      module _ (zn : n ≡ 0) (source_in : m.moves.source < most_holders) (destination_in : m.moves.destination < most_holders)
           (t' : List ℕ) (r : Transferred) (p : Carries h h.rule m t t' r) where
-        decided : number_of h t c ≡ cond full-now 11 0
-        decided = number-parts ∙ rw (← own, zn)
+        decided : number_of h t c ≡ cond full_now 11 0
+        decided = number_parts ∙ rw (← own, zn)
 
         -- no place was left
-        at-full : full-now ≡ true → Posts h c t t' r
-        unfolding applied tableLeft
-        at-full e = rw (p.table, e) (posts-refusal h t c 11 r (decided ∙ rw e) (λ q. omega arith) (p.answer ∙ rw e))
+        at_full : full_now ≡ true → Posts h c t t' r
+        unfolding applied table_left
+        at_full e = rw (p.table, e) (posts_refusal h t c 11 r (decided ∙ rw e) (λ q. omega arith) (p.answer ∙ rw e))
 
         -- accepted
-        at_last : full-now ≡ false → Posts h c t t' r
-        unfolding applied tableLeft takes
+        at_last : full_now ≡ false → Posts h c t t' r
+        unfolding applied table_left takes
         at_last e =
             let ea : number_of h t c ≡ 0 = decided ∙ rw e in
-            let o = accepted-on h t c ea ∙ ap (λ (x : Meaning). outcome h t x 0) is in
+            let o = accepted_on h t c ea ∙ ap (λ (x : Meaning). outcome h t x 0) is in
             let s = (keeps (places_of t) b c k.sound (sym (number_same (places_of t) h t b k.on k.sound c) ∙ ea)).sound.sound in
-            let u : Holders h.vessels (piecesAfter b h.rule m) = all_map (λ q g. g.holder_in) (rw is at s) in
-            record { answer = rw o (p.answer ∙ rw (e, next-head h t w h.rule m source_in destination-in u)); table = rw o (p.table ∙ rw e) }
+            let u : Holders h.vessels (pieces_after b h.rule m) = all_map (λ q g. g.holder_in) (rw is at s) in
+            record { answer = rw o (p.answer ∙ rw (e, next_head_lem h t w h.rule m source_in destination_in u)); table = rw o (p.table ∙ rw e) }
 
-        taking-done : Posts h c t t' r
-        taking-done = go full-now refl
+        taking_done : Posts h c t t' r
+        taking_done = go full_now refl
           where
-            go : (x : Bool) → full-now ≡ x → Posts h c t t' r
-            go true e = at-full e
+            go : (x : Bool) → full_now ≡ x → Posts h c t t' r
+            go true e = at_full e
             go false e = at_last e
 
 -- A transfer: what its checks tell, its refusal, and its end.
-module _ (h : Head) (t : List ℕ) (w : Audited h t) (x : Transfer) (n : ℕ) (en : n ≡ first (transferChecks (ofHead h) x)) where
-  pub post-refused : (n ≡ 0 → ⊥) → (z : Transferred) → z ≡ refusedWith h n → Posts h (post x) t t z
-  unfolding transferChecks
-  post-refused = taking-refused h t w (post x) (λ g. transferChecks g x) (motionOf x) refl tt n en
+module _ (h : Head) (t : List ℕ) (w : Audited h t) (x : Transfer) (n : ℕ) (en : n ≡ first (transfer_checks (of_head h) x)) where
+  pub post_refused : (n ≡ 0 → ⊥) → (z : Transferred) → z ≡ refused_with h n → Posts h (post x) t t z
+  unfolding transfer_checks
+  post_refused = taking_refused h t w (post x) (λ g. transfer_checks g x) (motion_of x) refl tt n en
 
   module _ (z : n ≡ 0) where
-    post-fit : Fit (ofHead h) x
-    post-fit = fit (ofHead h) x (sym en ∙ z)
+    post_fit : Fit (of_head h) x
+    post_fit = fit (of_head h) x (sym en ∙ z)
 
-    pub post-in-time : x.age ≤ x.minute
-    post-in-time = post-fit.in-time
+    pub post_in_time : x.age ≤ x.minute
+    post_in_time = post_fit.in_time
 
-    module _ (m : Motion) (em : m ≡ motionOf x) where
-      pub post-carriable : Carriable h m
-      post-carriable =
-          let f = post-fit in
-          let v = vessels-fit h t w in
+    module _ (m : Motion) (em : m ≡ motion_of x) where
+      pub post_carriable : Carriable h m
+      post_carriable =
+          let f = post_fit in
+          let v = vessels_fit h t w in
           let u = f.tally in
           rw em (record {
             source_in = omega (arith, f.source_in);
-            destination-in = omega (arith, f.destination-in);
+            destination_in = omega (arith, f.destination_in);
             apart = f.apart;
             room = f.room;
             tally = omega (arith, w.sized.tally);
           })
 
-      pub post-done : (t' : List ℕ) (r : Transferred) → Carries h h.rule m t t' r → Posts h (post x) t t' r
-      unfolding transferChecks
-      post-done t' r p =
-          let f = rw em at post-carriable in
-          taking-done h t w (post x) (λ g. transferChecks g x) (motionOf x) refl tt n en z f.source_in f.destination-in t' r (rw em at p)
+      pub post_done : (t' : List ℕ) (r : Transferred) → Carries h h.rule m t t' r → Posts h (post x) t t' r
+      unfolding transfer_checks
+      post_done t' r p =
+          let f = rw em at post_carriable in
+          taking_done h t w (post x) (λ g. transfer_checks g x) (motion_of x) refl tt n en z f.source_in f.destination_in t' r (rw em at p)
 
 -- A lift: the scale is bare, so that it has room for every weight of 32 bits.
-module _ (h : Head) (t : List ℕ) (w : Audited h t) (x : Lift) (n : ℕ) (en : n ≡ first (liftChecks (ofHead h) x)) where
-  pub lift-refused : (n ≡ 0 → ⊥) → (z : Transferred) → z ≡ refusedWith h n → Posts h (lift x) t t z
-  unfolding liftChecks
-  lift-refused = taking-refused h t w (lift x) (λ g. liftChecks g x) (liftMotion x) refl tt n en
+module _ (h : Head) (t : List ℕ) (w : Audited h t) (x : Lift) (n : ℕ) (en : n ≡ first (lift_checks (of_head h) x)) where
+  pub lift_refused : (n ≡ 0 → ⊥) → (z : Transferred) → z ≡ refused_with h n → Posts h (lift x) t t z
+  unfolding lift_checks
+  lift_refused = taking_refused h t w (lift x) (λ g. lift_checks g x) (lift_motion x) refl tt n en
 
   module _ (z : n ≡ 0) where
-    fit-lift : LiftFit (ofHead h) x
-    fit-lift = lift-fit (ofHead h) x (sym en ∙ z)
+    fit_lift : LiftFit (of_head h) x
+    fit_lift = lift_fit (of_head h) x (sym en ∙ z)
 
-    pub lift-in-time : x.age ≤ x.minute
-    lift-in-time = fit-lift.in-time
+    pub lift_in_time : x.age ≤ x.minute
+    lift_in_time = fit_lift.in_time
 
-    source_in : x.source < mostHolders
-    source_in = let v = vessels-fit h t w in omega (arith, fit-lift.source_in)
+    source_in : x.source < most_holders
+    source_in = let v = vessels_fit h t w in omega (arith, fit_lift.source_in)
 
-    module _ (m : Motion) (em : m ≡ liftMotion x) where
-      pub lift-carriable : Fits w32 x.weight → Carriable h m
-      lift-carriable light =
-          let f = fit-lift in
-          let v = vessels-fit h t w in
+    module _ (m : Motion) (em : m ≡ lift_motion x) where
+      pub lift_carriable : Fits w32 x.weight → Carriable h m
+      lift_carriable light =
+          let f = fit_lift in
+          let v = vessels_fit h t w in
           let u = f.tally in
           rw em (record {
             source_in = source_in;
-            destination-in = omega arith;
+            destination_in = omega arith;
             apart = λ e. omega (arith, f.source_in);
             room = omega (arith, f.bare, light.fits);
             tally = omega (arith, w.sized.tally);
           })
 
-      pub lift-done : (t' : List ℕ) (r : Transferred) → Carries h h.rule m t t' r → Posts h (lift x) t t' r
-      unfolding liftChecks
-      lift-done t' r p = taking-done h t w (lift x) (λ g. liftChecks g x) (liftMotion x) refl tt n en z source_in (omega arith) t' r (rw em at p)
+      pub lift_done : (t' : List ℕ) (r : Transferred) → Carries h h.rule m t t' r → Posts h (lift x) t t' r
+      unfolding lift_checks
+      lift_done t' r p = taking_done h t w (lift x) (λ g. lift_checks g x) (lift_motion x) refl tt n en z source_in (omega arith) t' r (rw em at p)
 
 -- A tip: all that is on the scale goes whole, so that there is always a place for it.
-module _ (h : Head) (t : List ℕ) (w : Audited h t) (y : Tip) (n : ℕ) (en : n ≡ first (tipChecks (ofHead h) y)) where
-  tip-own : number_of h t (tip y) ≡ n
-  tip-own = number_is h t w (tip y) ∙ sym (en ∙ ap (λ (g : Standing). first (tipChecks g y)) (standing h t w))
+module _ (h : Head) (t : List ℕ) (w : Audited h t) (y : Tip) (n : ℕ) (en : n ≡ first (tip_checks (of_head h) y)) where
+  tip_own : number_of h t (tip y) ≡ n
+  tip_own = number_is h t w (tip y) ∙ sym (en ∙ ap (λ (g : Standing). first (tip_checks g y)) (standing h t w))
 
-  pub tip-refused : (n ≡ 0 → ⊥) → (z : Tipped) → z ≡ record { number = n; head = h } → Tips h y t t z
-  tip-refused nz z ez = tips-refusal h t y n z tip-own nz ez
+  pub tip_refused : (n ≡ 0 → ⊥) → (z : Tipped) → z ≡ record { number = n; head = h } → Tips h y t t z
+  tip_refused nz z ez = tips_refusal h t y n z tip_own nz ez
 
-  module _ (z : n ≡ 0) (m : Motion) (em : m ≡ tipMotion h.scale y) where
-    fit-tip : TipFit (ofHead h) y
-    fit-tip = tip-fit (ofHead h) y (sym en ∙ z)
+  module _ (z : n ≡ 0) (m : Motion) (em : m ≡ tip_motion h.scale y) where
+    fit_tip : TipFit (of_head h) y
+    fit_tip = tip_fit (of_head h) y (sym en ∙ z)
 
-    scale-is : h.scale ≡ held theScale (pieces_of h.pieces t)
-    unfolding balanceAt
-    scale-is = (k h t w).balance theScale
+    scale_is : h.scale ≡ held the_scale (pieces_of h.pieces t)
+    unfolding balance_at
+    scale_is = (k h t w).balance the_scale
 
-    motion-is : m ≡ tipOn (bookOf h t) y
-    motion-is = em ∙ ap (λ (n : ℕ). tipMotion n y) scale-is
+    motion_is : m ≡ tip_on (book_of h t) y
+    motion_is = em ∙ ap (λ (n : ℕ). tip_motion n y) scale_is
 
-    pub tip-carriable : Carriable h m
-    unfolding balanceAt
-    tip-carriable =
-        let f = fit-tip in
-        let v = vessels-fit h t w in
+    pub tip_carriable : Carriable h m
+    unfolding balance_at
+    tip_carriable =
+        let f = fit_tip in
+        let v = vessels_fit h t w in
         rw em (record {
           source_in = omega arith;
-          destination-in = omega (arith, f.destination-in);
-          apart = λ e. omega (arith, f.destination-in);
+          destination_in = omega (arith, f.destination_in);
+          apart = λ e. omega (arith, f.destination_in);
           room = f.room;
           tally = omega (arith, w.sized.tally);
         })
 
-    pub tip-done : (t' : List ℕ) (r : Transferred) → Carries h asTheyLie m t t' r → (x : Tipped) → x ≡ record { number = r.number; head = r.head } → Tips h y t t' x
-    unfolding applied tableLeft takes
-    tip-done t' r p x ex =
-        let q = rw motion-is at p in
-        let c = rw motion-is at tip-carriable in
-        let b = bookOf h t in
-        let e : full (places_of t) (tipOn b y).moves (taken asTheyLie (tipOn b y).moves b.pieces) ≡ false = le-ltb (places_of t) (length (piecesAfter b asTheyLie (tipOn b y))) (rw (tip-length b y) (k h t w).sound.fits) in
-        let ea : number_of h t (tip y) ≡ 0 = tip-own ∙ z in
-        let o = accepted-on h t (tip y) ea in
+    pub tip_done : (t' : List ℕ) (r : Transferred) → Carries h as_they_lie m t t' r → (x : Tipped) → x ≡ record { number = r.number; head = r.head } → Tips h y t t' x
+    unfolding applied table_left takes
+    tip_done t' r p x ex =
+        let q = rw motion_is at p in
+        let c = rw motion_is at tip_carriable in
+        let b = book_of h t in
+        let e : full (places_of t) (tip_on b y).moves (taken as_they_lie (tip_on b y).moves b.pieces) ≡ false = le-ltb (places_of t) (length (pieces_after b as_they_lie (tip_on b y))) (rw (tip_length b y) (k h t w).sound.fits) in
+        let ea : number_of h t (tip y) ≡ 0 = tip_own ∙ z in
+        let o = accepted_on h t (tip y) ea in
         let s = (keeps (places_of t) b (tip y) (k h t w).sound (sym (number_same (places_of t) h t b (k h t w).on (k h t w).sound (tip y)) ∙ ea)).sound.sound in
-        let u : Holders h.vessels (piecesAfter b asTheyLie (tipOn b y)) = all_map (λ q g. g.holder_in) s in
-        record { answer = rw o (ex ∙ rw (q.answer, e, next-head h t w asTheyLie (tipOn b y) c.source_in c.destination-in u)); table = rw o (q.table ∙ rw e) }
+        let u : Holders h.vessels (pieces_after b as_they_lie (tip_on b y)) = all_map (λ q g. g.holder_in) s in
+        record { answer = rw o (ex ∙ rw (q.answer, e, next_head_lem h t w as_they_lie (tip_on b y) c.source_in c.destination_in u)); table = rw o (q.table ∙ rw e) }

@@ -1,14 +1,9 @@
 -- Laws of a list of checks: what it tells that none applies, two lists one after the other, a number that no check of a list has, a check that
 -- refuses less; and of what a test or a number tells by itself.
 -- Assumes nothing.
-use mathlib.Core.Path.{◌≡◌, refl, sym, ◌∙◌}
-use mathlib.Core.Bool.{Bool, true, false, not, ◌&&◌, ◌||◌}
-use mathlib.Core.List.{List, [], ◌∷◌, ◌++◌}
+use Rattle.std.proofs.Common.{◌≡◌, refl, sym, ◌∙◌, Bool, true, false, not, ◌&&◌, ◌||◌, List, [], ◌∷◌, ◌++◌, ℕ, zero, suc, arith, T, eqb, eqb-true, eq-eqb}
 use mathlib.Mathlib.Data.Bool.Basic.{or-eq-false-eq-eq-false-and-eq-false}
-use Prim.Native.Nat.{ℕ, zero, suc}
-use native.Mathlib.Omega.{arith}
-use lib.Dec.{T, eqb}
-use borrow.Author.Tests.{eqb-true, eq-eqb, not-false}
+use borrow.Author.Tests.{not-false}
 use Rattle.refusal.specs.Numbers.{Check, ◌if◌, first, ifZero}
 
 -- both tests are false where neither is true
@@ -20,14 +15,14 @@ pub same_if : (a b : ℕ) → not (eqb a b) ≡ false → a ≡ b
 same_if a b e = eqb-true a b (not-false (eqb a b) e)
 
 -- what is given where a number is not 0
-pub not-zero : {A : Type 0} (n : ℕ) (a b : A) → (n ≡ 0 → ⊥) → b ≡ ifZero n a b
-not-zero zero a b h = absurd (h refl)
-not-zero (suc n) a b h = refl
+pub not_zero : {A : Type 0} (n : ℕ) (a b : A) → (n ≡ 0 → ⊥) → b ≡ ifZero n a b
+not_zero zero a b h = absurd (h refl)
+not_zero (suc n) a b h = refl
 
 -- a first number that is 0 where the answer is
-pub first-zero : (n k : ℕ) → ifZero n k n ≡ 0 → n ≡ 0
-first-zero zero k e = refl
-first-zero (suc n) k e = e
+pub first_zero : (n k : ℕ) → ifZero n k n ≡ 0 → n ≡ 0
+first_zero zero k e = refl
+first_zero (suc n) k e = e
 
 -- no check of the list applies
 abbrev pub Passed : List Check → Type 0
@@ -46,11 +41,11 @@ passed ((zero if t) ∷ cs) h e = absurd h
 passed ((suc n if true) ∷ cs) h e = absurd (omega arith)
 passed ((suc n if false) ∷ cs) h e = (refl, passed cs h e)
 
-pub first-append : (cs ds : List Check) → T (named cs) → first (cs ++ ds) ≡ ifZero (first cs) (first ds) (first cs)
-first-append [] ds h = refl
-first-append ((zero if t) ∷ cs) ds h = absurd h
-first-append ((suc n if true) ∷ cs) ds h = refl
-first-append ((suc n if false) ∷ cs) ds h = first-append cs ds h
+pub first_append : (cs ds : List Check) → T (named cs) → first (cs ++ ds) ≡ ifZero (first cs) (first ds) (first cs)
+first_append [] ds h = refl
+first_append ((zero if t) ∷ cs) ds h = absurd h
+first_append ((suc n if true) ∷ cs) ds h = refl
+first_append ((suc n if false) ∷ cs) ds h = first_append cs ds h
 
 -- a check that does not apply, and those behind it
 pub past : (n : ℕ) (t : Bool) (cs : List Check) → first ((suc n if t) ∷ cs) ≡ 0 → (t ≡ false) × (first cs ≡ 0)
@@ -58,10 +53,10 @@ past n true cs e = absurd (omega arith)
 past n false cs e = (refl, e)
 
 -- two lists without the number 0, one after the other
-pub named-append : (cs ds : List Check) → T (named cs) → T (named ds) → T (named (cs ++ ds))
-named-append [] ds h k = k
-named-append ((zero if t) ∷ cs) ds h k = absurd h
-named-append ((suc n if t) ∷ cs) ds h k = named-append cs ds h k
+pub named_append : (cs ds : List Check) → T (named cs) → T (named ds) → T (named (cs ++ ds))
+named_append [] ds h k = k
+named_append ((zero if t) ∷ cs) ds h k = absurd h
+named_append ((suc n if t) ∷ cs) ds h k = named_append cs ds h k
 
 -- no number of the list is n
 abbrev pub without : ℕ → List Check → Bool
@@ -79,27 +74,27 @@ never n ((m if false) ∷ cs) h e = never n cs (behind (not (eqb m (suc n))) (wi
     behind false b k = absurd k
 
 -- a check that refuses less, before the same ones: where its number was not given, nothing changes
-pub refuses-less : (n : ℕ) (a b : Bool) (cs : List Check) → (a ≡ false → b ≡ false) → (first ((n if a) ∷ cs) ≡ n → ⊥)
+pub refuses_less : (n : ℕ) (a b : Bool) (cs : List Check) → (a ≡ false → b ≡ false) → (first ((n if a) ∷ cs) ≡ n → ⊥)
     → first ((n if b) ∷ cs) ≡ first ((n if a) ∷ cs)
-refuses-less n true b cs f h = absurd (h refl)
-refuses-less n false b cs f h = rw (f refl)
+refuses_less n true b cs f h = absurd (h refl)
+refuses_less n false b cs f h = rw (f refl)
 
 -- two lists that tell the same where the first does not give n, behind the same checks
-pub alike-behind : (n : ℕ) (cs ds es : List Check) → ((first ds ≡ n → ⊥) → first es ≡ first ds) → (first (cs ++ ds) ≡ n → ⊥) → first (cs ++ es) ≡ first (cs ++ ds)
-alike-behind n [] ds es f h = f h
-alike-behind n ((m if true) ∷ cs) ds es f h = refl
-alike-behind n ((m if false) ∷ cs) ds es f h = alike-behind n cs ds es f h
+pub alike_behind : (n : ℕ) (cs ds es : List Check) → ((first ds ≡ n → ⊥) → first es ≡ first ds) → (first (cs ++ ds) ≡ n → ⊥) → first (cs ++ es) ≡ first (cs ++ ds)
+alike_behind n [] ds es f h = f h
+alike_behind n ((m if true) ∷ cs) ds es f h = refl
+alike_behind n ((m if false) ∷ cs) ds es f h = alike_behind n cs ds es f h
 
 -- the first part of a list of checks refuses, or passes on to the second
 module _ (cs ds : List Check) (ok : T (named cs)) where
   pub refuses : (n : ℕ) → n ≡ first cs → (n ≡ 0 → ⊥) → n ≡ first (cs ++ ds)
-  refuses n e h = rw (first-append cs ds ok, ← e) (not-zero n (first ds) n h)
+  refuses n e h = rw (first_append cs ds ok, ← e) (not_zero n (first ds) n h)
 
   pub passes : (n r : ℕ) → n ≡ first cs → n ≡ 0 → r ≡ first ds → r ≡ first (cs ++ ds)
-  passes n r e z er = rw (first-append cs ds ok, sym e ∙ z) er
+  passes n r e z er = rw (first_append cs ds ok, sym e ∙ z) er
 
   pub passed_first : first (cs ++ ds) ≡ 0 → first cs ≡ 0
-  passed_first e = first-zero (first cs) (first ds) (sym (first-append cs ds ok) ∙ e)
+  passed_first e = first_zero (first cs) (first ds) (sym (first_append cs ds ok) ∙ e)
 
-  pub passed-second : first (cs ++ ds) ≡ 0 → first ds ≡ 0
-  passed-second e = rw (first-append cs ds ok, passed_first e) at e
+  pub passed_second : first (cs ++ ds) ≡ 0 → first ds ≡ 0
+  passed_second e = rw (first_append cs ds ok, passed_first e) at e

@@ -6,7 +6,7 @@ use Rattle.book.specs.declared.Report.{Report}
 use Rattle.book.specs.declared.Reported.{Reported}
 use Rattle.book.specs.Head.{Sized}
 use Rattle.book.specs.Calls.{ask}
-use Rattle.book.specs.Memory.{number_of, callOn, reported}
+use Rattle.book.specs.Memory.{number_of, call_on, reported}
 
 -- What all its checks find: the number of the call; and, whatever that is, the head's numbers fit 32 bits.
 pub record Judged (h : Head) (q : Report) (t r : List ℕ) (n : ℕ) : Type 0 where
@@ -15,5 +15,5 @@ pub record Judged (h : Head) (q : Report) (t r : List ℕ) (n : ℕ) : Type 0 wh
 
 -- What it promises: its answer and every number of the room are those of the call.
 pub record Asks (h : Head) (q : Report) (t r r' : List ℕ) (z : Reported) : Type 0 where
-  pub answer : z ≡ reported (callOn h t (ask q r))
-  pub room : r' ≡ (callOn h t (ask q r)).room
+  pub answer : z ≡ reported (call_on h t (ask q r))
+  pub room : r' ≡ (call_on h t (ask q r)).room

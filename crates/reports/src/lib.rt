@@ -4,8 +4,8 @@
 ghost use Rattle.std.specs.Prelude.{◌≡◌, ◌∷◌};
 ghost use Rattle.refusal.specs.Numbers.{first};
 ghost use Rattle.book.specs.declared.Report.TheVariants.{Held, Spread, Whole};
-ghost use Rattle.book.specs.Motion.{ofHead, loaded};
-ghost use Rattle.book.specs.Reports.{reportChecks};
+ghost use Rattle.book.specs.Motion.{of_head, loaded};
+ghost use Rattle.book.specs.Reports.{report_checks};
 ghost use Rattle.reports.specs.Asking.{Judged, Asks};
 
 use book::{Head, Report, Reported};
@@ -22,7 +22,7 @@ fn answer(number: u32, head: Head) -> Reported
 
 // The checks after 1, 4 and 22.
 fn refusal_to(asked: Report, vessels: u32, room: usize) -> u32
-    ensures { result ≡ first (reportChecks vessels room asked) }
+    ensures { result ≡ first (report_checks vessels room asked) }
 {
     let row = vessels as usize;
     match asked {
@@ -58,7 +58,7 @@ fn refusal_to(asked: Report, vessels: u32, room: usize) -> u32
 
 // The checks of a report on a book that adds up: 22, then its own.
 fn refusal_on(head: Head, asked: Report, room: usize) -> u32
-    ensures { result ≡ first (loaded (ofHead head) ∷ reportChecks head.vessels room asked) }
+    ensures { result ≡ first (loaded (of_head head) ∷ report_checks head.vessels room asked) }
 {
     if 0 < head.scale {
         return refusal::SCALE_LOADED;

@@ -1,155 +1,149 @@
 -- What was written is read as it was given. A sheet is its header, then its names, then its movements. The header's numbers come back from their bytes, the names lie as they
 -- were given, and each movement comes back from its twelve bytes, since its numbers fit them. Assumes nothing.
-use Prim.Native.Nat.{ℕ, ◌+◌, ◌*◌, ◌<◌, ◌≤◌}
-use native.Mathlib.Omega.{arith}
-use mathlib.Core.Path.{◌≡◌, refl, sym, ap, ◌∙◌}
-use mathlib.Core.Bool.{false}
-use mathlib.Core.List.{List, [], ◌++◌, append_assoc}
-use borrow.Author.Tests.{le-ltb, eq-eqb}
-use lib.ListN.{length, get_or, take, drop}
-use lib.Seq.{drop_at, drop-drop, take-append-le, get_or-drop}
+use Rattle.std.proofs.Common.{ℕ, ◌+◌, ◌*◌, ◌<◌, ◌≤◌, arith, ◌≡◌, refl, sym, ap, ◌∙◌, false, List, [], ◌++◌, append_assoc, le-ltb, eq-eqb, length, get_or, take, drop, drop_at, drop-drop, get_or-drop}
+use lib.Seq.{take-append-le}
 use Rattle.refusal.specs.Numbers.{first}
 use Rattle.refusal.proofs.Numbers.{passes}
-use Rattle.fields.specs.Bytes.{valueIn, bytes_of}
-use Rattle.fields.specs.Layout.{nameSize, mostMovements, headerSize, mark, markSize, names_at, entries_at, length_at, entriesStart, sheetSize, movementsOff}
-use Rattle.names.specs.Names.{namesIn}
-use Rattle.fields.specs.Movements.{givenSize, noEntry, givenIn, entriesIn, entriesGiven, entriesBytes, entryChecks, entriesChecks}
-use Rattle.book.specs.Head.{lastRule, mostVessels}
+use Rattle.fields.specs.Bytes.{value_in, bytes_of}
+use Rattle.fields.specs.Layout.{name_size, most_movements, header_size, mark, mark_size, names_at, entries_at, length_at, entries_start, sheet_size, movements_off}
+use Rattle.names.specs.Names.{names_in}
+use Rattle.fields.specs.Movements.{given_size, no_entry, given_in, entries_in, entries_given, entries_bytes, entry_checks, entries_checks}
+use Rattle.book.specs.Head.{last_rule, most_vessels}
 use Rattle.book.proofs.HeadLaws.{same_refl}
-use Rattle.sheet.specs.Sheet.{entriesRead, namesRead, ruleOf, vesselsOf, movementsOf, noSheet, layoutOff, headerChecks, bodyChecks, readNumber}
-use Rattle.sheet.specs.Answers.{reading, movementAnswer, movementAt, movementNumber, nameBytes, nameNumber}
-use Rattle.writing.specs.Writing.{countGiven, headerBytes, sheetOf, writeNumber}
-use Rattle.fields.proofs.GroupLaws.{group_at, groups-append, length-groups}
-use Rattle.sheet.proofs.AnswerLaws.{read_number, asked-inside, entry_of, name_of}
-use Rattle.sheet.proofs.HeaderLaws.{real-length, out_none, out-fields}
-use Rattle.writing.proofs.SheetPut.{length-header}
-use Rattle.writing.proofs.WriteLaws.{Counted, Content, write-counted, write-content, length-sheet}
-use Rattle.fields.proofs.EntryLaws.{all_sound, ages-fit}
-use Rattle.fields.proofs.BackLaws.{Below, back-number, back-entries, Fit}
+use Rattle.sheet.specs.Sheet.{entries_read, names_read, rule_of, vessels_of, movements_of, no_sheet, layout_off, header_checks, body_checks, read_number}
+use Rattle.sheet.specs.Answers.{reading, movement_answer, movement_at, movement_number, name_bytes, name_number}
+use Rattle.writing.specs.Writing.{count_given, header_bytes, sheet_of, write_number}
+use Rattle.fields.proofs.GroupLaws.{group_at, groups_append, length_groups}
+use Rattle.sheet.proofs.AnswerLaws.{read_number_lem, asked_inside, entry_of, name_of}
+use Rattle.sheet.proofs.HeaderLaws.{real_length, out_none, out_fields}
+use Rattle.writing.proofs.SheetPut.{length_header}
+use Rattle.writing.proofs.WriteLaws.{Counted, Content, write_counted, write_content, length_sheet}
+use Rattle.fields.proofs.EntryLaws.{all_sound, ages_fit}
+use Rattle.fields.proofs.BackLaws.{Below, back_number, back_entries, Fit}
 
 -- The numbers of a header come back from its bytes.
 pub record Header (rule vessels movements : ℕ) (s : List ℕ) : Type 0 where
-  pub known : ruleOf s ≡ rule
-  pub held : vesselsOf s ≡ vessels
-  pub moved : movementsOf s ≡ movements
-  pub names : valueIn 4 (drop names_at s) ≡ headerSize
-  pub start : valueIn 4 (drop entries_at s) ≡ entriesStart vessels
-  pub size : valueIn 4 (drop length_at s) ≡ sheetSize vessels movements
+  pub known : rule_of s ≡ rule
+  pub held : vessels_of s ≡ vessels
+  pub moved : movements_of s ≡ movements
+  pub names : value_in 4 (drop names_at s) ≡ header_size
+  pub start : value_in 4 (drop entries_at s) ≡ entries_start vessels
+  pub size : value_in 4 (drop length_at s) ≡ sheet_size vessels movements
 
-back-header : (rule vessels movements : ℕ) (rest : List ℕ) → rule ≤ lastRule → vessels ≤ mostVessels → movements ≤ mostMovements
-    → Header rule vessels movements (headerBytes rule vessels movements ++ rest)
+back_header : (rule vessels movements : ℕ) (rest : List ℕ) → rule ≤ last_rule → vessels ≤ most_vessels → movements ≤ most_movements
+    → Header rule vessels movements (header_bytes rule vessels movements ++ rest)
 unfolding bytes_of
-back-header rule vessels movements rest hr hv hm =
+back_header rule vessels movements rest hr hv hm =
     record {
-      known = back-number 2 rule _ (omega arith);
-      held = back-number 2 vessels _ (omega arith);
-      moved = back-number 4 movements _ (omega arith);
-      names = back-number 4 headerSize _ (omega arith);
-      start = back-number 4 (entriesStart vessels) _ (omega arith);
-      size = back-number 4 (sheetSize vessels movements) rest (omega arith);
+      known = back_number 2 rule _ (omega arith);
+      held = back_number 2 vessels _ (omega arith);
+      moved = back_number 4 movements _ (omega arith);
+      names = back_number 4 header_size _ (omega arith);
+      start = back_number 4 (entries_start vessels) _ (omega arith);
+      size = back_number 4 (sheet_size vessels movements) rest (omega arith);
     }
 
 -- A sheet whose rule, counts, names and numbers the writer accepts; each number is one of 32 bits.
-module _ (rule vessels room : ℕ) (names numbers : List ℕ) (accepted : writeNumber rule vessels names numbers room ≡ 0) (small : Below 4294967296 numbers) where
+module _ (rule vessels room : ℕ) (names numbers : List ℕ) (accepted : write_number rule vessels names numbers room ≡ 0) (small : Below 4294967296 numbers) where
   abbrev count : ℕ
-  count = countGiven numbers
+  count = count_given numbers
 
   abbrev s : List ℕ
-  s = sheetOf rule vessels names numbers
+  s = sheet_of rule vessels names numbers
 
   abbrev movements : List ℕ
-  movements = entriesBytes (entriesGiven count numbers)
+  movements = entries_bytes (entries_given count numbers)
 
   counted : Counted rule vessels names numbers
-  counted = write-counted rule vessels room _ names numbers refl accepted
+  counted = write_counted rule vessels room _ names numbers refl accepted
 
   content : Content vessels count names numbers room
-  content = write-content rule vessels room _ names numbers refl accepted
+  content = write_content rule vessels room _ names numbers refl accepted
 
-  split : s ≡ headerBytes rule vessels count ++ (names ++ movements)
-  unfolding sheetOf
-  split = append_assoc (headerBytes rule vessels count) names movements
+  split : s ≡ header_bytes rule vessels count ++ (names ++ movements)
+  unfolding sheet_of
+  split = append_assoc (header_bytes rule vessels count) names movements
 
   pub header : Header rule vessels count s
-  header = rw split (back-header rule vessels count (names ++ movements) counted.opened.rule-known counted.opened.few-vessels counted.moved)
+  header = rw split (back_header rule vessels count (names ++ movements) counted.opened.rule_known counted.opened.few_vessels counted.moved)
 
-  behind-header : drop headerSize s ≡ names ++ movements
-  behind-header = rw split (drop_at (headerBytes rule vessels count) (names ++ movements) headerSize (length-header rule vessels count))
+  behind_header : drop header_size s ≡ names ++ movements
+  behind_header = rw split (drop_at (header_bytes rule vessels count) (names ++ movements) header_size (length_header rule vessels count))
 
-  behind-names : drop (entriesStart vessels) s ≡ movements
-  behind-names = sym (drop-drop (nameSize * vessels) headerSize s) ∙ rw behind-header (drop_at names movements (nameSize * vessels) counted.named)
+  behind_names : drop (entries_start vessels) s ≡ movements
+  behind_names = sym (drop-drop (name_size * vessels) header_size s) ∙ rw behind_header (drop_at names movements (name_size * vessels) counted.named)
 
   -- the movements come back, since each fits
-  fit : (i : ℕ) → i < length (entriesGiven count numbers) → Fit (get_or (entriesGiven count numbers) i noEntry)
+  fit : (i : ℕ) → i < length (entries_given count numbers) → Fit (get_or (entries_given count numbers) i no_entry)
   fit i h =
-      let inside : i < count = rw length-groups at h in
-      let is : get_or (entriesGiven count numbers) i noEntry ≡ givenIn (drop (givenSize * i) numbers) = group_at givenSize givenIn count numbers i noEntry inside in
-      let v = all_sound vessels (entriesGiven count numbers) content.moved i h in
-      let few = counted.opened.few-vessels in
+      let inside : i < count = rw length_groups at h in
+      let is : get_or (entries_given count numbers) i no_entry ≡ given_in (drop (given_size * i) numbers) = group_at given_size given_in count numbers i no_entry inside in
+      let v = all_sound vessels (entries_given count numbers) content.moved i h in
+      let few = counted.opened.few_vessels in
       record {
         source = omega arith;
         destination = omega arith;
         age = omega arith;
-        minute = rw (is, get_or-drop) (small (givenSize * i + 2));
-        weight = rw (is, get_or-drop) (small (givenSize * i + 3));
+        minute = rw (is, get_or-drop) (small (given_size * i + 2));
+        weight = rw (is, get_or-drop) (small (given_size * i + 3));
       }
 
-  back : entriesIn count (drop (entriesStart vessels) s) ≡ entriesGiven count numbers
+  back : entries_in count (drop (entries_start vessels) s) ≡ entries_given count numbers
   back =
-      rw behind-names
-      (ap (λ (n : ℕ). entriesIn n movements) (sym (length-groups givenSize givenIn count numbers)) ∙ back-entries (entriesGiven count numbers) fit)
+      rw behind_names
+      (ap (λ (n : ℕ). entries_in n movements) (sym (length_groups given_size given_in count numbers)) ∙ back_entries (entries_given count numbers) fit)
 
-  same_names : namesIn vessels (drop headerSize s) ≡ namesIn vessels names
+  same_names : names_in vessels (drop header_size s) ≡ names_in vessels names
   same_names =
-      rw behind-header
-      (groups-append nameSize (take nameSize) (λ l r h. take-append-le nameSize l r h) vessels names movements (omega (arith, counted.named)))
+      rw behind_header
+      (groups_append name_size (take name_size) (λ l r h. take-append-le name_size l r h) vessels names movements (omega (arith, counted.named)))
 
   -- no check of the reader applies
-  long : length s ≡ sheetSize vessels count
-  long = length-sheet rule vessels names numbers counted.named
+  long : length s ≡ sheet_size vessels count
+  long = length_sheet rule vessels names numbers counted.named
 
-  is-sheet : noSheet s ≡ false
-  unfolding noSheet
-  is-sheet =
-      let h : headerSize ≤ length s = omega (arith, long) in
-      let m : take markSize s ≡ mark = rw split in
-      rw (le-ltb (length s) headerSize h, m, same_refl mark)
+  is_sheet : no_sheet s ≡ false
+  unfolding no_sheet
+  is_sheet =
+      let h : header_size ≤ length s = omega (arith, long) in
+      let m : take mark_size s ≡ mark = rw split in
+      rw (le-ltb (length s) header_size h, m, same_refl mark)
 
-  laid_out : layoutOff vessels count s ≡ false
+  laid_out : layout_off vessels count s ≡ false
   laid_out =
-      sym (real-length s vessels count headerSize (sym header.names) (entriesStart vessels) (sym header.start) refl (sheetSize vessels count) (sym header.size) refl refl)
-      ∙ rw (eq-eqb (length s) (sheetSize vessels count) long)
+      sym (real_length s vessels count header_size (sym header.names) (entries_start vessels) (sym header.start) refl (sheet_size vessels count) (sym header.size) refl refl)
+      ∙ rw (eq-eqb (length s) (sheet_size vessels count) long)
 
-  good-header : 0 ≡ first (headerChecks s)
-  good-header =
-      out-fields s false rule vessels count 0 (sym is-sheet) refl (sym header.known) (sym header.held) (sym header.moved)
-      (out_none rule vessels 0 15 16 (movementsOff count) (layoutOff vessels count s) (sym counted.opens) refl false (sym counted.inside) refl false (sym laid_out) refl)
+  good_header : 0 ≡ first (header_checks s)
+  good_header =
+      out_fields s false rule vessels count 0 (sym is_sheet) refl (sym header.known) (sym header.held) (sym header.moved)
+      (out_none rule vessels 0 15 16 (movements_off count) (layout_off vessels count s) (sym counted.opens) refl false (sym counted.inside) refl false (sym laid_out) refl)
 
-  good-body : 0 ≡ first (bodyChecks (vesselsOf s) (movementsOf s) s)
-  good-body =
-      let es = entriesGiven count numbers in
-      let read : first (entriesChecks (entryChecks vessels) es) ≡ 0 = sym (ages-fit vessels es (λ i h. (all_sound vessels es content.moved i h).age)) ∙ content.moved in
+  good_body : 0 ≡ first (body_checks (vessels_of s) (movements_of s) s)
+  good_body =
+      let es = entries_given count numbers in
+      let read : first (entries_checks (entry_checks vessels) es) ≡ 0 = sym (ages_fit vessels es (λ i h. (all_sound vessels es content.moved i h).age)) ∙ content.moved in
       rw (header.held, header.moved, same_names, back, content.named) (sym read)
 
-  pub accepts : readNumber s ≡ 0
-  unfolding readNumber
-  accepts = sym (passes (headerChecks s) (bodyChecks (vesselsOf s) (movementsOf s) s) tt 0 0 good-header refl good-body)
+  pub accepts : read_number s ≡ 0
+  unfolding read_number
+  accepts = sym (passes (header_checks s) (body_checks (vessels_of s) (movements_of s) s) tt 0 0 good_header refl good_body)
 
   reads : (reading s).number ≡ 0
-  reads = read_number s (reading s) refl ∙ accepts
+  reads = read_number_lem s (reading s) refl ∙ accepts
 
-  pub same-movement : (i : ℕ) → i < count → movementAt s i ≡ movementAnswer 0 (givenIn (drop (givenSize * i) numbers))
-  same-movement i h =
-      let same : get_or (entriesRead s) i noEntry ≡ get_or (entriesGiven count numbers) i noEntry = rw (header.held, header.moved, back) in
-      entry_of s i (rw header.moved h) ∙ ap (movementAnswer 0) (same ∙ group_at givenSize givenIn count numbers i noEntry h)
+  pub same_movement : (i : ℕ) → i < count → movement_at s i ≡ movement_answer 0 (given_in (drop (given_size * i) numbers))
+  same_movement i h =
+      let same : get_or (entries_read s) i no_entry ≡ get_or (entries_given count numbers) i no_entry = rw (header.held, header.moved, back) in
+      entry_of s i (rw header.moved h) ∙ ap (movement_answer 0) (same ∙ group_at given_size given_in count numbers i no_entry h)
 
-  pub same_name : (v : ℕ) → v < vessels → nameBytes s v ≡ take nameSize (drop (nameSize * v) names)
+  pub same_name : (v : ℕ) → v < vessels → name_bytes s v ≡ take name_size (drop (name_size * v) names)
   same_name v h =
-      let same : get_or (namesRead s) v [] ≡ get_or (namesIn vessels names) v [] = rw (header.held, same_names) in
-      name_of s v (rw header.held h) ∙ same ∙ group_at nameSize (take nameSize) vessels names v [] h
+      let same : get_or (names_read s) v [] ≡ get_or (names_in vessels names) v [] = rw (header.held, same_names) in
+      name_of s v (rw header.held h) ∙ same ∙ group_at name_size (take name_size) vessels names v [] h
 
-  pub named : (v : ℕ) → v < vessels → nameNumber s v ≡ 0
-  named v h = sym (asked-inside s (reading s) refl reads 5 (vesselsOf s) v (rw header.held h))
+  pub named : (v : ℕ) → v < vessels → name_number s v ≡ 0
+  named v h = sym (asked_inside s (reading s) refl reads 5 (vessels_of s) v (rw header.held h))
 
-  pub moved : (i : ℕ) → i < count → movementNumber s i ≡ 0
-  moved i h = sym (asked-inside s (reading s) refl reads 20 (movementsOf s) i (rw header.moved h))
+  pub moved : (i : ℕ) → i < count → movement_number s i ≡ 0
+  moved i h = sym (asked_inside s (reading s) refl reads 20 (movements_of s) i (rw header.moved h))

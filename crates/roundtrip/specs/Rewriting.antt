@@ -1,25 +1,25 @@
 -- Writing a sheet again that was read. Definitions only. Assumes nothing.
 use Rattle.std.specs.Prelude.{List, [], ◌∷◌, ◌++◌, ℕ, ◌*◌, ltb, length, take, drop}
 use Rattle.refusal.specs.Numbers.{◌if◌, ifZero}
-use Rattle.fields.specs.Movements.{numbersIn}
-use Rattle.fields.specs.Layout.{headerSize, nameSize}
+use Rattle.fields.specs.Movements.{numbers_in}
+use Rattle.fields.specs.Layout.{header_size, name_size}
 use Rattle.sheet.specs.declared.answer.Movement.{Movement}
-use Rattle.sheet.specs.Sheet.{vesselsOf, entriesRead}
-use Rattle.sheet.specs.Answers.{askedNumber}
+use Rattle.sheet.specs.Sheet.{vessels_of, entries_read}
+use Rattle.sheet.specs.Answers.{asked_number}
 
 -- What the writer is given for a sheet that was read: its name bytes, and the numbers of its movements.
 abbrev pub names_of : List ℕ → List ℕ
-names_of s = take (nameSize * vesselsOf s) (drop headerSize s)
+names_of s = take (name_size * vessels_of s) (drop header_size s)
 
-abbrev pub numbersOf : List ℕ → List ℕ
-numbersOf s = numbersIn (entriesRead s)
+abbrev pub numbers_of : List ℕ → List ℕ
+numbers_of s = numbers_in (entries_read s)
 
-abbrev pub movementNumbers : Movement → List ℕ
-movementNumbers m = m.source ∷ m.destination ∷ m.minute ∷ m.weight ∷ m.age ∷ []
+abbrev pub movement_numbers : Movement → List ℕ
+movement_numbers m = m.source ∷ m.destination ∷ m.minute ∷ m.weight ∷ m.age ∷ []
 
 -- "Rewriting what was read yields the same bytes": the sheet's own number, then 19, and else the sheet's own bytes with those of the slice behind them.
-abbrev pub rewriteNumber : List ℕ → ℕ → ℕ
-rewriteNumber s room = askedNumber s (19 if ltb room (length s))
+abbrev pub rewrite_number : List ℕ → ℕ → ℕ
+rewrite_number s room = asked_number s (19 if ltb room (length s))
 
 abbrev pub rewritten : List ℕ → List ℕ → List ℕ
-rewritten s out = ifZero (rewriteNumber s (length out)) (s ++ drop (length s) out) out
+rewritten s out = ifZero (rewrite_number s (length out)) (s ++ drop (length s) out) out

@@ -3,17 +3,17 @@
 
 ghost use Rattle.std.specs.Prelude.{◌≡◌, ◌≤◌, ◌+◌, ◌*◌, length};
 ghost use Rattle.std.proofs.lemmas.List.Edits.{sets};
-ghost use Rattle.fields.specs.Movements.{givenSize};
-ghost use Rattle.sheet.specs.Sheet.{movementsOf, readNumber};
-ghost use Rattle.roundtrip.specs.Rewriting.{movementNumbers, numbersOf, rewriteNumber, rewritten};
+ghost use Rattle.fields.specs.Movements.{given_size};
+ghost use Rattle.sheet.specs.Sheet.{movements_of, read_number};
+ghost use Rattle.roundtrip.specs.Rewriting.{movement_numbers, numbers_of, rewrite_number, rewritten};
 
 use fields::layout::{GIVEN_SIZE, HEADER_SIZE, MOST_MOVEMENTS, NAME_SIZE};
 use sheet::answer::Movement;
 
 // Puts the five numbers of a movement from `at` on.
 fn put_movement(numbers: &mut [u32], at: usize, m: Movement)
-    requires { at + givenSize ≤ length numbers.old }
-    ensures { numbers.new ≡ sets numbers.old at (movementNumbers m) }
+    requires { at + given_size ≤ length numbers.old }
+    ensures { numbers.new ≡ sets numbers.old at (movement_numbers m) }
 {
     numbers[at] = m.source;
     numbers[at + 1] = m.destination;
@@ -24,8 +24,8 @@ fn put_movement(numbers: &mut [u32], at: usize, m: Movement)
 
 // Puts the numbers of all movements of a sheet that reads well at the front.
 fn take_numbers(sheet: &[u8], movements: u32, numbers: &mut [u32])
-    requires { (readNumber sheet.now ≡ 0) × (movements ≡ movementsOf sheet.now) × (givenSize * movements ≤ length numbers.old) }
-    ensures { numbers.new ≡ sets numbers.old 0 (numbersOf sheet.now) }
+    requires { (read_number sheet.now ≡ 0) × (movements ≡ movements_of sheet.now) × (given_size * movements ≤ length numbers.old) }
+    ensures { numbers.new ≡ sets numbers.old 0 (numbers_of sheet.now) }
 {
     let mut i: u32 = 0;
     while i < movements {
@@ -37,7 +37,7 @@ fn take_numbers(sheet: &[u8], movements: u32, numbers: &mut [u32])
 
 // Reads a sheet and writes what was read at the start of `out`: the same bytes, byte for byte.
 pub fn rewrite(sheet: &[u8], out: &mut [u8]) -> u32
-    ensures number { result ≡ rewriteNumber sheet.now (length out.old) }
+    ensures number { result ≡ rewrite_number sheet.now (length out.old) }
     ensures bytes { out.new ≡ rewritten sheet.now out.old }
 {
     let r = sheet::read(sheet);

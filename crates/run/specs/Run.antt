@@ -5,28 +5,28 @@ use Rattle.std.specs.Prelude.{◌≡◌, List, [], ◌∷◌, ℕ, zero, suc, �
 use Rattle.refusal.specs.Numbers.{◌if◌, first, ifZero}
 use Rattle.book.specs.declared.Head.{Head}
 use Rattle.book.specs.declared.Transfer.{Transfer}
-use Rattle.book.specs.Head.{emptyHead, opening}
-use Rattle.book.specs.Transfer.{transferOf}
+use Rattle.book.specs.Head.{empty_head, opening}
+use Rattle.book.specs.Transfer.{transfer_of}
 use Rattle.book.specs.Calls.{post}
-use Rattle.book.specs.Memory.{Outcome, callOn}
+use Rattle.book.specs.Memory.{Outcome, call_on}
 use Rattle.carrying.specs.Carrying.{Workable}
 use Rattle.run.specs.declared.Ran.{Ran}
 use Rattle.fields.specs.Bytes.{groups}
-use Rattle.fields.specs.Movements.{entrySize, entryIn}
-use Rattle.fields.specs.Layout.{entriesStart, mostMovements}
-use Rattle.sheet.specs.Sheet.{ruleOf, vesselsOf, movementsOf, readNumber}
+use Rattle.fields.specs.Movements.{entry_size, entry_in}
+use Rattle.fields.specs.Layout.{entries_start, most_movements}
+use Rattle.sheet.specs.Sheet.{rule_of, vessels_of, movements_of, read_number}
 
 -- the transfer that the movement in the first bytes is
-abbrev pub transferIn : List ℕ → Transfer
-transferIn l = let e = entryIn l in transferOf e.source e.destination e.minute e.weight e.age
+abbrev pub transfer_in : List ℕ → Transfer
+transfer_in l = let e = entry_in l in transfer_of e.source e.destination e.minute e.weight e.age
 
 -- the transfers of a sheet, in turn
-abbrev pub transfersOf : List ℕ → List Transfer
-transfersOf s = groups entrySize transferIn (movementsOf s) (drop (entriesStart (vesselsOf s)) s)
+abbrev pub transfers_of : List ℕ → List Transfer
+transfers_of s = groups entry_size transfer_in (movements_of s) (drop (entries_start (vessels_of s)) s)
 
 -- the transfer at an index of a sheet that reads well
-abbrev pub transferAt : List ℕ → ℕ → Transfer
-transferAt s i = transferIn (drop (entriesStart (vesselsOf s) + entrySize * i) s)
+abbrev pub transfer_at : List ℕ → ℕ → Transfer
+transfer_at s i = transfer_in (drop (entries_start (vessels_of s) + entry_size * i) s)
 
 -- What a run gives back, and the table that it leaves.
 pub record Running : Type 0 where
@@ -38,30 +38,30 @@ ended n i even h t = record { answer = record { number = n; index = i; even = ev
 
 -- What running promises: the answer and the table are those of y.
 pub record Gives (y : Running) (t' : List ℕ) (r : Ran) : Type 0 where
-  pub answer-is : r ≡ y.answer
+  pub answer_is : r ≡ y.answer
   pub table_is : t' ≡ y.table
 
 -- The transfers from index i on; so many before it were even. The first refused one ends the run.
-abbrev pub goOn : (ℕ → Head → List ℕ → Running) → ℕ → ℕ → Head → List ℕ → Transfer → Outcome → ℕ → Running
-goOn more i even h t x o zero = more (even + o.even) o.head o.table
-goOn more i even h t x o (suc n) = ended (suc n) i even h t
+abbrev pub go_on : (ℕ → Head → List ℕ → Running) → ℕ → ℕ → Head → List ℕ → Transfer → Outcome → ℕ → Running
+go_on more i even h t x o zero = more (even + o.even) o.head o.table
+go_on more i even h t x o (suc n) = ended (suc n) i even h t
 
 unfoldable pub run_from : ℕ → ℕ → Head → List ℕ → List Transfer → Running
 run_from i even h t [] = ended 0 i even h t
 run_from i even h t (x ∷ xs) =
-    goOn (λ even' h' t'. run_from (suc i) even' h' t' xs) i even h t x (callOn h t (post x)) (callOn h t (post x)).number
+    go_on (λ even' h' t'. run_from (suc i) even' h' t' xs) i even h t x (call_on h t (post x)) (call_on h t (post x)).number
 
 -- The number of a run that is refused by its sheet or by 1: "a head of zeros".
-unfoldable pub runNumber : List ℕ → List ℕ → ℕ
-runNumber s t = ifZero (readNumber s) (first (1 if ltb (length t) 4 ∷ [])) (readNumber s)
+unfoldable pub run_number : List ℕ → List ℕ → ℕ
+run_number s t = ifZero (read_number s) (first (1 if ltb (length t) 4 ∷ [])) (read_number s)
 
 unfoldable pub running : List ℕ → List ℕ → Running
 running s t =
-    ifZero (runNumber s t) (run_from 0 0 (opening (ruleOf s) (vesselsOf s)).head t (transfersOf s)) (ended (runNumber s t) 0 0 (emptyHead 0 0) t)
+    ifZero (run_number s t) (run_from 0 0 (opening (rule_of s) (vessels_of s)).head t (transfers_of s)) (ended (run_number s t) 0 0 (empty_head 0 0) t)
 
 -- What making all movements asks: the sheet reads well and has so many, and the book is known to add up.
 pub record Runnable (s : List ℕ) (m : ℕ) (h : Head) (t keys spare lifted : List ℕ) : Type 0 where
-  pub reads : readNumber s ≡ 0
-  pub count : m ≡ movementsOf s
-  pub few : m ≤ mostMovements
+  pub reads : read_number s ≡ 0
+  pub count : m ≡ movements_of s
+  pub few : m ≤ most_movements
   pub work : Workable h t keys spare lifted

@@ -3,12 +3,12 @@
 
 ghost use Rattle.std.specs.Prelude.{◌≡◌, ◌<◌, ◌≤◌, ◌+◌};
 ghost use Rattle.refusal.specs.Numbers.{ifZero};
-ghost use Rattle.book.specs.Head.{emptyHead};
+ghost use Rattle.book.specs.Head.{empty_head};
 ghost use Rattle.book.specs.Calls.{post};
 ghost use Rattle.carrying.specs.Carrying.{Workable};
 ghost use Rattle.posting.specs.Posting.{Posts};
-ghost use Rattle.sheet.specs.Sheet.{movementsOf, readNumber};
-ghost use Rattle.run.specs.Run.{transferAt, transfersOf, Gives, run_from, running, Runnable};
+ghost use Rattle.sheet.specs.Sheet.{movements_of, read_number};
+ghost use Rattle.run.specs.Run.{transfer_at, transfers_of, Gives, run_from, running, Runnable};
 
 use book::{Head, Transfer, Transferred};
 
@@ -24,7 +24,7 @@ pub struct Ran {
 }
 
 fn refused(number: u32) -> Ran
-    ensures { result ≡ record { number = number; index = 0; even = 0; head = emptyHead 0 0 } }
+    ensures { result ≡ record { number = number; index = 0; even = 0; head = empty_head 0 0 } }
 {
     Ran {
         number: number,
@@ -57,8 +57,8 @@ fn make(
     spare: &mut [u64],
     lifted: &mut [u32],
 ) -> Transferred
-    requires { (readNumber sheet.now ≡ 0) × (i < movementsOf sheet.now) × Workable head table.old keys.old spare.old lifted.old }
-    ensures { Posts head (post (transferAt sheet.now i)) table.old table.new result }
+    requires { (read_number sheet.now ≡ 0) × (i < movements_of sheet.now) × Workable head table.old keys.old spare.old lifted.old }
+    ensures { Posts head (post (transfer_at sheet.now i)) table.old table.new result }
 {
     let m = sheet::movement_known(sheet, i);
     let x = Transfer {
@@ -82,7 +82,7 @@ fn make_all(
     lifted: &mut [u32],
 ) -> Ran
     requires { Runnable sheet.now movements fresh table.old keys.old spare.old lifted.old }
-    ensures { Gives (run_from 0 0 fresh table.old (transfersOf sheet.now)) table.new result }
+    ensures { Gives (run_from 0 0 fresh table.old (transfers_of sheet.now)) table.new result }
 {
     let mut head = fresh;
     let mut even: u32 = 0;

@@ -1,154 +1,148 @@
 -- Laws of the answers: each way out of `read`, `movement`, `name_number` and `name`, and the bounds that a good answer gives.
 -- Assumes nothing.
-use Prim.Native.Nat.{ℕ, zero, suc, ◌+◌, ◌*◌, ◌-◌, ◌<◌, ◌≤◌}
+use Rattle.std.proofs.Common.{ℕ, zero, suc, ◌+◌, ◌*◌, ◌-◌, ◌<◌, ◌≤◌, arith, ◌≡◌, refl, sym, ap, ◌∙◌, List, [], ◌∷◌, leb-false, le-leb, leb, get_or, length, take, drop, length-take, take-take, drop-drop}
 use native.Mathlib.Nat.{add-sub_cancel_left}
-use native.Mathlib.Omega.{arith}
-use mathlib.Core.Path.{◌≡◌, refl, sym, ap, ◌∙◌}
-use mathlib.Core.List.{List, [], ◌∷◌}
-use borrow.Author.Tests.{leb-false, lt-leb, le-leb}
-use lib.Dec.{leb}
-use lib.ListN.{get_or, length, take, drop, length-take}
-use lib.Seq.{take-take, drop-drop}
+use borrow.Author.Tests.{lt-leb}
 use Rattle.refusal.specs.Numbers.{Check, ◌if◌, first, ifZero}
-use Rattle.refusal.proofs.Numbers.{passed, not-zero, first-zero}
+use Rattle.refusal.proofs.Numbers.{passed, not_zero, first_zero}
 use Rattle.sheet.specs.declared.answer.Reading.{Reading}
 use Rattle.sheet.specs.declared.answer.Movement.{Movement}
 use Rattle.fields.specs.declared.entries.Entry.{Entry}
-use Rattle.fields.specs.Layout.{nameSize, headerSize, nameStart, entriesStart}
-use Rattle.names.specs.Names.{letters, shortName}
-use Rattle.fields.specs.Movements.{entrySize, entryIn, noEntry}
-use Rattle.sheet.specs.Sheet.{entriesRead, namesRead, ruleOf, vesselsOf, movementsOf, readNumber}
-use Rattle.sheet.specs.Answers.{headerOf, refusedReading, reading, movementAnswer, askedNumber, movementAt, movementNumber, movementAsked, nameNumber, nameBytes, nameAsked, namePlace}
+use Rattle.fields.specs.Layout.{name_size, header_size, name_start, entries_start}
+use Rattle.names.specs.Names.{letters, short_name}
+use Rattle.fields.specs.Movements.{entry_size, entry_in, no_entry}
+use Rattle.sheet.specs.Sheet.{entries_read, names_read, rule_of, vessels_of, movements_of, read_number}
+use Rattle.sheet.specs.Answers.{header_of, refused_reading, reading, movement_answer, asked_number, movement_at, movement_number, movement_asked, name_number, name_bytes, name_asked, name_place}
 use Rattle.fields.proofs.GroupLaws.{group_at}
 use Rattle.sheet.proofs.ReadLaws.{good}
 
-pub header-says : (s : List ℕ) (rule vessels movements : ℕ) → rule ≡ ruleOf s → vessels ≡ vesselsOf s → movements ≡ movementsOf s
-    → ◌≡◌ {A = Reading} record { number = 0; rule = rule; vessels = vessels; movements = movements } (headerOf s)
-header-says s rule vessels movements er ev em = simp (er, ev, em)
+pub header_says : (s : List ℕ) (rule vessels movements : ℕ) → rule ≡ rule_of s → vessels ≡ vessels_of s → movements ≡ movements_of s
+    → ◌≡◌ {A = Reading} record { number = 0; rule = rule; vessels = vessels; movements = movements } (header_of s)
+header_says s rule vessels movements er ev em = simp (er, ev, em)
 
-pub sheet-fits : (s : List ℕ) (n k : ℕ) → n ≡ readNumber s → n ≡ 0 → k ≤ headerSize → k ≤ length s
-sheet-fits s n k e z h = let l = good s n e z in omega arith
+pub sheet_fits : (s : List ℕ) (n k : ℕ) → n ≡ read_number s → n ≡ 0 → k ≤ header_size → k ≤ length s
+sheet_fits s n k e z h = let l = good s n e z in omega arith
 
 -- the ways out of `read`
-module _ (s : List ℕ) (n : ℕ) (e : n ≡ readNumber s) where
-  pub read-refused : (n ≡ 0 → ⊥) → refusedReading n ≡ reading s
-  read-refused h = rw (← e) (not-zero n (headerOf s) (refusedReading n) h)
+module _ (s : List ℕ) (n : ℕ) (e : n ≡ read_number s) where
+  pub read_refused : (n ≡ 0 → ⊥) → refused_reading n ≡ reading s
+  read_refused h = rw (← e) (not_zero n (header_of s) (refused_reading n) h)
 
-  pub read-good : (r : Reading) → n ≡ 0 → r ≡ headerOf s → r ≡ reading s
-  read-good r z er = rw (← e, z) er
+  pub read_good : (r : Reading) → n ≡ 0 → r ≡ header_of s → r ≡ reading s
+  read_good r z er = rw (← e, z) er
 
 -- what a reading tells
 module _ (s : List ℕ) (r : Reading) (e : r ≡ reading s) where
-  pub read_number : r.number ≡ readNumber s
-  read_number = ap (λ (x : Reading). x.number) e ∙ go (readNumber s)
+  pub read_number_lem : r.number ≡ read_number s
+  read_number_lem = ap (λ (x : Reading). x.number) e ∙ go (read_number s)
     where
-      go : (n : ℕ) → (ifZero n (headerOf s) (refusedReading n)).number ≡ n
+      go : (n : ℕ) → (ifZero n (header_of s) (refused_reading n)).number ≡ n
       go zero = refl
       go (suc n) = refl
 
-  pub asked-refused : (check : Check) → (r.number ≡ 0 → ⊥) → r.number ≡ askedNumber s check
-  unfolding askedNumber
-  asked-refused check h = rw (← read_number) (not-zero r.number (first (check ∷ [])) r.number h)
+  pub asked_refused : (check : Check) → (r.number ≡ 0 → ⊥) → r.number ≡ asked_number s check
+  unfolding asked_number
+  asked_refused check h = rw (← read_number_lem) (not_zero r.number (first (check ∷ [])) r.number h)
 
   module _ (z : r.number ≡ 0) where
-    pub read-zero : readNumber s ≡ 0
-    read-zero = sym read_number ∙ z
+    pub read_zero : read_number s ≡ 0
+    read_zero = sym read_number_lem ∙ z
 
-    pub header : r ≡ headerOf s
-    header = e ∙ rw read-zero
+    pub header : r ≡ header_of s
+    header = e ∙ rw read_zero
 
-    pub read-vessels : r.vessels ≡ vesselsOf s
-    read-vessels = ap (λ (x : Reading). x.vessels) header
+    pub read_vessels : r.vessels ≡ vessels_of s
+    read_vessels = ap (λ (x : Reading). x.vessels) header
 
-    pub read-movements : r.movements ≡ movementsOf s
-    read-movements = ap (λ (x : Reading). x.movements) header
+    pub read_movements : r.movements ≡ movements_of s
+    read_movements = ap (λ (x : Reading). x.movements) header
 
-    pub asked-good : (check : Check) → askedNumber s check ≡ first (check ∷ [])
-    unfolding askedNumber
-    asked-good check = rw read-zero
+    pub asked_good : (check : Check) → asked_number s check ≡ first (check ∷ [])
+    unfolding asked_number
+    asked_good check = rw read_zero
 
-    pub index-good : (index : ℕ) → index < r.movements → index < movementsOf s
-    index-good index h = rw (← read-movements) h
+    pub index_good : (index : ℕ) → index < r.movements → index < movements_of s
+    index_good index h = rw (← read_movements) h
 
     -- the check of an index, of either kind
-    asked-past : (number count index : ℕ) → count ≤ index → number ≡ askedNumber s (number if leb count index)
-    asked-past number count index h = rw (asked-good, le-leb count index h)
+    asked_past : (number count index : ℕ) → count ≤ index → number ≡ asked_number s (number if leb count index)
+    asked_past number count index h = rw (asked_good, le-leb count index h)
 
-    pub asked-inside : (number count index : ℕ) → index < count → 0 ≡ askedNumber s (number if leb count index)
-    asked-inside number count index h = rw (asked-good, lt-leb count index h)
+    pub asked_inside : (number count index : ℕ) → index < count → 0 ≡ asked_number s (number if leb count index)
+    asked_inside number count index h = rw (asked_good, lt-leb count index h)
 
 -- the ways out of `movement`
 module _ (s : List ℕ) (r : Reading) (index : ℕ) (e : r ≡ reading s) (m : Movement) where
-  refused : (n : ℕ) → n ≡ movementNumber s index → (n ≡ 0 → ⊥) → m ≡ movementAnswer n noEntry → m ≡ movementAsked s index
-  refused n en h em = em ∙ rw (← en) (not-zero n (movementAt s index) (movementAnswer n noEntry) h)
+  refused : (n : ℕ) → n ≡ movement_number s index → (n ≡ 0 → ⊥) → m ≡ movement_answer n no_entry → m ≡ movement_asked s index
+  refused n en h em = em ∙ rw (← en) (not_zero n (movement_at s index) (movement_answer n no_entry) h)
 
-  pub movement-refused : (r.number ≡ 0 → ⊥) → m ≡ movementAnswer r.number noEntry → m ≡ movementAsked s index
-  movement-refused h em = refused r.number (asked-refused s r e (20 if leb (movementsOf s) index) h) h em
+  pub movement_refused : (r.number ≡ 0 → ⊥) → m ≡ movement_answer r.number no_entry → m ≡ movement_asked s index
+  movement_refused h em = refused r.number (asked_refused s r e (20 if leb (movements_of s) index) h) h em
 
   module _ (z : r.number ≡ 0) where
-    pub movement-past : r.movements ≤ index → m ≡ movementAnswer 20 noEntry → m ≡ movementAsked s index
-    movement-past h em =
-        refused 20 (asked-past s r e z 20 (movementsOf s) index (rw (← read-movements s r e z) h)) (λ q. omega arith) em
+    pub movement_past : r.movements ≤ index → m ≡ movement_answer 20 no_entry → m ≡ movement_asked s index
+    movement_past h em =
+        refused 20 (asked_past s r e z 20 (movements_of s) index (rw (← read_movements s r e z) h)) (λ q. omega arith) em
 
-    pub movement-good : index < r.movements → m ≡ movementAt s index → m ≡ movementAsked s index
-    movement-good h em = em ∙ rw (← asked-inside s r e z 20 (movementsOf s) index (index-good s r e z index h))
+    pub movement_good : index < r.movements → m ≡ movement_at s index → m ≡ movement_asked s index
+    movement_good h em = em ∙ rw (← asked_inside s r e z 20 (movements_of s) index (index_good s r e z index h))
 
 -- the ways out of `name_number`
 module _ (s : List ℕ) (r : Reading) (vessel : ℕ) (e : r ≡ reading s) (z : r.number ≡ 0) where
-  pub vessel-past : r.vessels ≤ vessel → 5 ≡ nameNumber s vessel
-  vessel-past h = asked-past s r e z 5 (vesselsOf s) vessel (rw (← read-vessels s r e z) h)
+  pub vessel_past : r.vessels ≤ vessel → 5 ≡ name_number s vessel
+  vessel_past h = asked_past s r e z 5 (vessels_of s) vessel (rw (← read_vessels s r e z) h)
 
-  pub vessel-good : vessel < r.vessels → 0 ≡ nameNumber s vessel
-  vessel-good h = asked-inside s r e z 5 (vesselsOf s) vessel (rw (← read-vessels s r e z) h)
+  pub vessel_good : vessel < r.vessels → 0 ≡ name_number s vessel
+  vessel_good h = asked_inside s r e z 5 (vessels_of s) vessel (rw (← read_vessels s r e z) h)
 
 -- the movement at an index lies in a sheet that reads well
-module _ (s : List ℕ) (index vessels : ℕ) (ev : vessels ≡ vesselsOf s) where
-  pub entry-fits : readNumber s ≡ 0 → index < movementsOf s → entriesStart vessels + entrySize * index + entrySize ≤ length s
-  entry-fits z h = let l = good s _ refl z in omega arith
+module _ (s : List ℕ) (index vessels : ℕ) (ev : vessels ≡ vessels_of s) where
+  pub entry_fits : read_number s ≡ 0 → index < movements_of s → entries_start vessels + entry_size * index + entry_size ≤ length s
+  entry_fits z h = let l = good s _ refl z in omega arith
 
-  pub movement-says : (e : Entry) → e ≡ entryIn (drop (entriesStart vessels + entrySize * index) s) → movementAnswer 0 e ≡ movementAt s index
-  movement-says e ee = rw (ee, ev)
+  pub movement_says : (e : Entry) → e ≡ entry_in (drop (entries_start vessels + entry_size * index) s) → movement_answer 0 e ≡ movement_at s index
+  movement_says e ee = rw (ee, ev)
 
 -- the ways out of `name`
-module _ (s : List ℕ) (vessel n : ℕ) (e : n ≡ nameNumber s vessel) where
-  pub name-none : (n ≡ 0 → ⊥) → [] ≡ nameAsked s vessel
-  name-none h = rw (← e) (not-zero n (shortName (nameBytes s vessel)) [] h)
+module _ (s : List ℕ) (vessel n : ℕ) (e : n ≡ name_number s vessel) where
+  pub name_none : (n ≡ 0 → ⊥) → [] ≡ name_asked s vessel
+  name_none h = rw (← e) (not_zero n (short_name (name_bytes s vessel)) [] h)
 
-  pub place_none : (n ≡ 0 → ⊥) → (p : ℕ) → 0 + p ≡ namePlace s vessel + p
-  place_none h p = ap (λ (k : ℕ). k + p) (rw (← e) (not-zero n (nameStart vessel) 0 h))
+  pub place_none : (n ≡ 0 → ⊥) → (p : ℕ) → 0 + p ≡ name_place s vessel + p
+  place_none h p = ap (λ (k : ℕ). k + p) (rw (← e) (not_zero n (name_start vessel) 0 h))
 
   module _ (z : n ≡ 0) where
-    pub place_at : (p : ℕ) → nameStart vessel + p ≡ namePlace s vessel + p
+    pub place_at : (p : ℕ) → name_start vessel + p ≡ name_place s vessel + p
     place_at p = rw (← e, z)
 
-    pub name-fits : nameStart vessel + nameSize ≤ length s
-    unfolding askedNumber
-    name-fits =
-        let k = first ((5 if leb (vesselsOf s) vessel) ∷ []) in
-        let q : readNumber s ≡ 0 = first-zero (readNumber s) k (sym e ∙ z) in
+    pub name_fits : name_start vessel + name_size ≤ length s
+    unfolding asked_number
+    name_fits =
+        let k = first ((5 if leb (vessels_of s) vessel) ∷ []) in
+        let q : read_number s ≡ 0 = first_zero (read_number s) k (sym e ∙ z) in
         let p : k ≡ 0 = rw q at (sym e ∙ z) in
         let l = good s _ refl q in
-        omega (arith, leb-false (vesselsOf s) vessel (passed ((5 if leb (vesselsOf s) vessel) ∷ []) tt p).0)
+        omega (arith, leb-false (vessels_of s) vessel (passed ((5 if leb (vessels_of s) vessel) ∷ []) tt p).0)
 
-    module _ (count : ℕ) (long : count ≤ length (take (nameStart vessel + nameSize - (nameStart vessel)) (drop (nameStart vessel) s))) where
-      few : count ≤ nameSize
+    module _ (count : ℕ) (long : count ≤ length (take (name_start vessel + name_size - (name_start vessel)) (drop (name_start vessel) s))) where
+      few : count ≤ name_size
       few = let h = rw (add-sub_cancel_left, length-take) at long in omega arith
 
-      pub stop-fits : nameStart vessel + count ≤ length s
-      stop-fits = omega (arith, few, name-fits)
+      pub stop_fits : name_start vessel + count ≤ length s
+      stop_fits = omega (arith, few, name_fits)
 
-      pub name-says : count ≡ letters (take (nameStart vessel + nameSize - (nameStart vessel)) (drop (nameStart vessel) s))
-          → take (nameStart vessel + count - (nameStart vessel)) (drop (nameStart vessel) s) ≡ nameAsked s vessel
-      name-says ec =
-          let ec' : count ≡ letters (nameBytes s vessel) = rw add-sub_cancel_left at ec in
-          rw (← e, z, add-sub_cancel_left, ← ec', take-take count nameSize (drop (nameStart vessel) s) few)
+      pub name_says : count ≡ letters (take (name_start vessel + name_size - (name_start vessel)) (drop (name_start vessel) s))
+          → take (name_start vessel + count - (name_start vessel)) (drop (name_start vessel) s) ≡ name_asked s vessel
+      name_says ec =
+          let ec' : count ≡ letters (name_bytes s vessel) = rw add-sub_cancel_left at ec in
+          rw (← e, z, add-sub_cancel_left, ← ec', take-take count name_size (drop (name_start vessel) s) few)
 
 -- the movements and the names of a sheet, each by its index
-pub entry_of : (s : List ℕ) (i : ℕ) → i < movementsOf s → movementAt s i ≡ movementAnswer 0 (get_or (entriesRead s) i noEntry)
+pub entry_of : (s : List ℕ) (i : ℕ) → i < movements_of s → movement_at s i ≡ movement_answer 0 (get_or (entries_read s) i no_entry)
 entry_of s i h =
-    let d = drop (entriesStart (vesselsOf s)) s in
-    let e : drop (entrySize * i) d ≡ drop (entriesStart (vesselsOf s) + entrySize * i) s = drop-drop (entrySize * i) (entriesStart (vesselsOf s)) s in
-    sym (ap (movementAnswer 0) (group_at entrySize entryIn (movementsOf s) d i noEntry h ∙ ap entryIn e))
+    let d = drop (entries_start (vessels_of s)) s in
+    let e : drop (entry_size * i) d ≡ drop (entries_start (vessels_of s) + entry_size * i) s = drop-drop (entry_size * i) (entries_start (vessels_of s)) s in
+    sym (ap (movement_answer 0) (group_at entry_size entry_in (movements_of s) d i no_entry h ∙ ap entry_in e))
 
-pub name_of : (s : List ℕ) (v : ℕ) → v < vesselsOf s → nameBytes s v ≡ get_or (namesRead s) v []
-name_of s v h = rw (group_at nameSize (take nameSize) (vesselsOf s) (drop headerSize s) v [] h, drop-drop)
+pub name_of : (s : List ℕ) (v : ℕ) → v < vessels_of s → name_bytes s v ≡ get_or (names_read s) v []
+name_of s v h = rw (group_at name_size (take name_size) (vessels_of s) (drop header_size s) v [] h, drop-drop)

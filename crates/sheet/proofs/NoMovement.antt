@@ -1,29 +1,26 @@
--- A SHEET WITHOUT MOVEMENTS (M = 0). `no-movement-read`: of its checks 14, 2, 3, 16 and 17 are left, as they are of every sheet.
--- `no-movement-asked`: asking for any movement of it gives 20.
+-- A SHEET WITHOUT MOVEMENTS (M = 0). `no_movement_read`: of its checks 14, 2, 3, 16 and 17 are left, as they are of every sheet.
+-- `no_movement_asked`: asking for any movement of it gives 20.
 -- Assumes nothing.
-use Prim.Native.Nat.{ℕ}
-use native.Mathlib.Omega.{arith}
-use mathlib.Core.Path.{◌≡◌, refl, sym, ◌∙◌}
-use mathlib.Core.List.{List, [], ◌∷◌, ◌++◌}
+use Rattle.std.proofs.Common.{ℕ, arith, ◌≡◌, refl, sym, ◌∙◌, List, [], ◌∷◌, ◌++◌}
 use Rattle.refusal.specs.Numbers.{◌if◌, first}
-use Rattle.book.specs.Head.{openChecks}
+use Rattle.book.specs.Head.{open_checks}
 use Rattle.fields.specs.Bytes.{groups}
-use Rattle.fields.proofs.LayoutLaws.{movements-fit}
-use Rattle.fields.specs.Movements.{noEntry, entriesChecks}
-use Rattle.names.specs.Names.{namesOff}
-use Rattle.sheet.specs.Sheet.{namesRead, ruleOf, vesselsOf, movementsOf, noSheet, layoutOff, readNumber}
-use Rattle.sheet.specs.Answers.{reading, movementAnswer, movementAsked}
-use Rattle.sheet.proofs.AnswerLaws.{read_number, read-movements, movement-past}
+use Rattle.fields.proofs.LayoutLaws.{movements_fit}
+use Rattle.fields.specs.Movements.{no_entry, entries_checks}
+use Rattle.names.specs.Names.{names_off}
+use Rattle.sheet.specs.Sheet.{names_read, rule_of, vessels_of, movements_of, no_sheet, layout_off, read_number}
+use Rattle.sheet.specs.Answers.{reading, movement_answer, movement_asked}
+use Rattle.sheet.proofs.AnswerLaws.{read_number_lem, read_movements, movement_past}
 
-module _ (s : List ℕ) (none : movementsOf s ≡ 0) where
-  pub no-movement-read : readNumber s
-      ≡ first ((14 if noSheet s) ∷ openChecks (ruleOf s) (vesselsOf s) ++ (16 if layoutOff (vesselsOf s) 0 s) ∷ (17 if namesOff (namesRead s)) ∷ [])
-  unfolding readNumber groups entriesChecks
-  no-movement-read = rw (none, movements-fit 0 (omega arith))
+module _ (s : List ℕ) (none : movements_of s ≡ 0) where
+  pub no_movement_read : read_number s
+      ≡ first ((14 if no_sheet s) ∷ open_checks (rule_of s) (vessels_of s) ++ (16 if layout_off (vessels_of s) 0 s) ∷ (17 if names_off (names_read s)) ∷ [])
+  unfolding read_number groups entries_checks
+  no_movement_read = rw (none, movements_fit 0 (omega arith))
 
-  pub no-movement-asked : readNumber s ≡ 0 → (index : ℕ) → movementAsked s index ≡ movementAnswer 20 noEntry
-  no-movement-asked z index =
+  pub no_movement_asked : read_number s ≡ 0 → (index : ℕ) → movement_asked s index ≡ movement_answer 20 no_entry
+  no_movement_asked z index =
       let r = reading s in
-      let good : r.number ≡ 0 = read_number s r refl ∙ z in
-      let past = read-movements s r refl good in
-      sym (movement-past s r index refl (movementAnswer 20 noEntry) good (omega arith) refl)
+      let good : r.number ≡ 0 = read_number_lem s r refl ∙ z in
+      let past = read_movements s r refl good in
+      sym (movement_past s r index refl (movement_answer 20 no_entry) good (omega arith) refl)

@@ -1,54 +1,48 @@
 -- Laws of a sheet read whole: what a good header lays down, the number at each way out, and what an answer of number 0 is.
 -- Assumes nothing.
-use Prim.Native.Nat.{ℕ, ◌-◌, ◌≤◌}
-use native.Mathlib.Omega.{arith}
-use mathlib.Core.Path.{◌≡◌, refl, sym, ◌∙◌}
-use mathlib.Core.Bool.{Bool, true, false, not}
-use mathlib.Core.List.{List, [], ◌∷◌, ◌++◌}
-use lib.Dec.{eqb}
-use lib.ListN.{length, take, drop}
+use Rattle.std.proofs.Common.{ℕ, ◌-◌, ◌≤◌, arith, ◌≡◌, refl, sym, ◌∙◌, Bool, true, false, not, List, [], ◌∷◌, ◌++◌, eqb, length, take, drop}
 use Rattle.refusal.specs.Numbers.{Check, ◌if◌, first}
-use Rattle.refusal.proofs.Numbers.{passed, neither, same_if, past, refuses, passes, passed_first, passed-second}
-use Rattle.fields.specs.Bytes.{valueIn}
-use Rattle.names.specs.Names.{namesIn, namesOff}
-use Rattle.fields.specs.Movements.{entriesIn, entryChecks, entriesChecks}
-use Rattle.book.specs.Head.{openChecks}
-use Rattle.fields.specs.Layout.{mostMovements, headerSize, names_at, entries_at, length_at, entriesStart, sheetSize, movementsOff, Within}
-use Rattle.sheet.specs.Sheet.{entriesRead, namesRead, ruleOf, vesselsOf, movementsOf, layoutOff, noSheet, headerChecks, bodyChecks, readNumber}
-use Rattle.fields.proofs.LayoutLaws.{few-movements}
+use Rattle.refusal.proofs.Numbers.{passed, neither, same_if, past, refuses, passes, passed_first, passed_second}
+use Rattle.fields.specs.Bytes.{value_in}
+use Rattle.names.specs.Names.{names_in, names_off}
+use Rattle.fields.specs.Movements.{entries_in, entry_checks, entries_checks}
+use Rattle.book.specs.Head.{open_checks}
+use Rattle.fields.specs.Layout.{most_movements, header_size, names_at, entries_at, length_at, entries_start, sheet_size, movements_off, Within}
+use Rattle.sheet.specs.Sheet.{entries_read, names_read, rule_of, vessels_of, movements_of, layout_off, no_sheet, header_checks, body_checks, read_number}
+use Rattle.fields.proofs.LayoutLaws.{few_movements}
 use Rattle.fields.proofs.ByteLaws.{rest_part}
 use Rattle.book.proofs.HeadLaws.{Openable, openable}
 
 -- What a header lays down that passes its checks.
 pub record Laid (s : List ℕ) : Type 0 where
-  pub marked : noSheet s ≡ false
-  pub opens : first (openChecks (ruleOf s) (vesselsOf s)) ≡ 0
-  pub inside : movementsOff (movementsOf s) ≡ false
-  pub opened : Openable (ruleOf s) (vesselsOf s)
-  pub movements : movementsOf s ≤ mostMovements
-  pub names : valueIn 4 (drop names_at s) ≡ headerSize
-  pub start : valueIn 4 (drop entries_at s) ≡ entriesStart (vesselsOf s)
-  pub field : valueIn 4 (drop length_at s) ≡ sheetSize (vesselsOf s) (movementsOf s)
-  pub size : length s ≡ sheetSize (vesselsOf s) (movementsOf s)
+  pub marked : no_sheet s ≡ false
+  pub opens : first (open_checks (rule_of s) (vessels_of s)) ≡ 0
+  pub inside : movements_off (movements_of s) ≡ false
+  pub opened : Openable (rule_of s) (vessels_of s)
+  pub movements : movements_of s ≤ most_movements
+  pub names : value_in 4 (drop names_at s) ≡ header_size
+  pub start : value_in 4 (drop entries_at s) ≡ entries_start (vessels_of s)
+  pub field : value_in 4 (drop length_at s) ≡ sheet_size (vessels_of s) (movements_of s)
+  pub size : length s ≡ sheet_size (vessels_of s) (movements_of s)
 
-abbrev lastChecks : List ℕ → List Check
-lastChecks s = (15 if movementsOff (movementsOf s)) ∷ (16 if layoutOff (vesselsOf s) (movementsOf s) s) ∷ []
+abbrev last_checks : List ℕ → List Check
+last_checks s = (15 if movements_off (movements_of s)) ∷ (16 if layout_off (vessels_of s) (movements_of s) s) ∷ []
 
-pub laid : (s : List ℕ) (n : ℕ) → n ≡ first (headerChecks s) → n ≡ 0 → Laid s
-unfolding layoutOff
+pub laid : (s : List ℕ) (n : ℕ) → n ≡ first (header_checks s) → n ≡ 0 → Laid s
+unfolding layout_off
 laid s n e z =
-    let p = past 13 (noSheet s) (openChecks (ruleOf s) (vesselsOf s) ++ lastChecks s) (sym e ∙ z) in
-    let opens = passed_first (openChecks (ruleOf s) (vesselsOf s)) (lastChecks s) tt p.1 in
-    let q = passed (lastChecks s) tt (passed-second (openChecks (ruleOf s) (vesselsOf s)) (lastChecks s) tt p.1) in
-    let a = neither (not (eqb (valueIn 4 (drop names_at s)) headerSize)) _ q.1.0 in
-    let b = neither (not (eqb (valueIn 4 (drop entries_at s)) (entriesStart (vesselsOf s)))) _ a.1 in
-    let c = neither (not (eqb (valueIn 4 (drop length_at s)) (sheetSize (vesselsOf s) (movementsOf s)))) _ b.1 in
+    let p = past 13 (no_sheet s) (open_checks (rule_of s) (vessels_of s) ++ last_checks s) (sym e ∙ z) in
+    let opens = passed_first (open_checks (rule_of s) (vessels_of s)) (last_checks s) tt p.1 in
+    let q = passed (last_checks s) tt (passed_second (open_checks (rule_of s) (vessels_of s)) (last_checks s) tt p.1) in
+    let a = neither (not (eqb (value_in 4 (drop names_at s)) header_size)) _ q.1.0 in
+    let b = neither (not (eqb (value_in 4 (drop entries_at s)) (entries_start (vessels_of s)))) _ a.1 in
+    let c = neither (not (eqb (value_in 4 (drop length_at s)) (sheet_size (vessels_of s) (movements_of s)))) _ b.1 in
     record {
       marked = p.0;
       opens = opens;
       inside = q.0;
-      opened = openable (ruleOf s) (vesselsOf s) opens;
-      movements = few-movements (movementsOf s) _ refl q.0;
+      opened = openable (rule_of s) (vessels_of s) opens;
+      movements = few_movements (movements_of s) _ refl q.0;
       names = same_if _ _ a.0;
       start = same_if _ _ b.0;
       field = same_if _ _ c.0;
@@ -56,56 +50,56 @@ laid s n e z =
     }
 
 -- a header that passes holds its 24 bytes
-pub header-holds : (s : List ℕ) (n k : ℕ) → n ≡ first (headerChecks s) → n ≡ 0 → k ≤ headerSize → k ≤ length s
-header-holds s n k e z h = let l = laid s n e z in omega arith
+pub header_holds : (s : List ℕ) (n k : ℕ) → n ≡ first (header_checks s) → n ≡ 0 → k ≤ header_size → k ≤ length s
+header_holds s n k e z h = let l = laid s n e z in omega arith
 
-pub body-fits : (s : List ℕ) (n vessels movements : ℕ) → n ≡ first (headerChecks s) → n ≡ 0 → vessels ≡ vesselsOf s → movements ≡ movementsOf s
-    → Within vessels movements × (length s ≡ sheetSize vessels movements)
-body-fits s n vessels movements e z ev em =
+pub body_fits : (s : List ℕ) (n vessels movements : ℕ) → n ≡ first (header_checks s) → n ≡ 0 → vessels ≡ vessels_of s → movements ≡ movements_of s
+    → Within vessels movements × (length s ≡ sheet_size vessels movements)
+body_fits s n vessels movements e z ev em =
     let l = laid s n e z in
-    (record { few-vessels = omega arith; few-movements = omega arith }, omega arith)
+    (record { few_vessels = omega arith; few_movements = omega arith }, omega arith)
 
 -- the ways out of `body_number`
-module _ (s : List ℕ) (vessels movements : ℕ) (off : Bool) (e : off ≡ namesOff (namesIn vessels (take (length s - headerSize) (drop headerSize s)))) where
-  names-say : off ≡ namesOff (namesIn vessels (drop headerSize s))
-  names-say = rw rest_part at e
+module _ (s : List ℕ) (vessels movements : ℕ) (off : Bool) (e : off ≡ names_off (names_in vessels (take (length s - header_size) (drop header_size s)))) where
+  names_say : off ≡ names_off (names_in vessels (drop header_size s))
+  names_say = rw rest_part at e
 
-  pub out_name : off ≡ true → 17 ≡ first (bodyChecks vessels movements s)
-  out_name q = rw (← names-say, q)
+  pub out_name : off ≡ true → 17 ≡ first (body_checks vessels movements s)
+  out_name q = rw (← names_say, q)
 
-  pub out-entries : (n : ℕ) → off ≡ false → n ≡ first (entriesChecks (entryChecks vessels) (entriesIn movements (take (length s - (entriesStart vessels)) (drop (entriesStart vessels) s))))
-      → n ≡ first (bodyChecks vessels movements s)
-  out-entries n q en = rw (← names-say, q) (rw rest_part at en)
+  pub out_entries : (n : ℕ) → off ≡ false → n ≡ first (entries_checks (entry_checks vessels) (entries_in movements (take (length s - (entries_start vessels)) (drop (entries_start vessels) s))))
+      → n ≡ first (body_checks vessels movements s)
+  out_entries n q en = rw (← names_say, q) (rw rest_part at en)
 
 -- the ways out of `sheet_number`
-module _ (s : List ℕ) (n : ℕ) (e : n ≡ first (headerChecks s)) where
-  pub out-header : (n ≡ 0 → ⊥) → n ≡ readNumber s
-  unfolding readNumber
-  out-header h = refuses (headerChecks s) (bodyChecks (vesselsOf s) (movementsOf s) s) tt n e h
+module _ (s : List ℕ) (n : ℕ) (e : n ≡ first (header_checks s)) where
+  pub out_header : (n ≡ 0 → ⊥) → n ≡ read_number s
+  unfolding read_number
+  out_header h = refuses (header_checks s) (body_checks (vessels_of s) (movements_of s) s) tt n e h
 
-  pub out-body : (vessels movements r : ℕ) → n ≡ 0 → vessels ≡ vesselsOf s → movements ≡ movementsOf s → r ≡ first (bodyChecks vessels movements s) → r ≡ readNumber s
-  unfolding readNumber
-  out-body vessels movements r z ev em er =
-      passes (headerChecks s) (bodyChecks (vesselsOf s) (movementsOf s) s) tt n r e z (rw (← ev, ← em) er)
+  pub out_body : (vessels movements r : ℕ) → n ≡ 0 → vessels ≡ vessels_of s → movements ≡ movements_of s → r ≡ first (body_checks vessels movements s) → r ≡ read_number s
+  unfolding read_number
+  out_body vessels movements r z ev em er =
+      passes (header_checks s) (body_checks (vessels_of s) (movements_of s) s) tt n r e z (rw (← ev, ← em) er)
 
-pub good : (s : List ℕ) (n : ℕ) → n ≡ readNumber s → n ≡ 0 → Laid s
-unfolding readNumber
-good s n e z = laid s _ refl (passed_first (headerChecks s) (bodyChecks (vesselsOf s) (movementsOf s) s) tt (sym e ∙ z))
+pub good : (s : List ℕ) (n : ℕ) → n ≡ read_number s → n ≡ 0 → Laid s
+unfolding read_number
+good s n e z = laid s _ refl (passed_first (header_checks s) (body_checks (vessels_of s) (movements_of s) s) tt (sym e ∙ z))
 
 -- what lies behind the header of a sheet that reads well
-module _ (s : List ℕ) (z : readNumber s ≡ 0) where
+module _ (s : List ℕ) (z : read_number s ≡ 0) where
   abbrev names : Bool
-  names = namesOff (namesRead s)
+  names = names_off (names_read s)
 
   abbrev entries : List Check
-  entries = entriesChecks (entryChecks (vesselsOf s)) (entriesRead s)
+  entries = entries_checks (entry_checks (vessels_of s)) (entries_read s)
 
   body : (names ≡ false) × (first entries ≡ 0)
-  unfolding readNumber
-  body = past 16 names entries (passed-second (headerChecks s) (bodyChecks (vesselsOf s) (movementsOf s) s) tt z)
+  unfolding read_number
+  body = past 16 names entries (passed_second (header_checks s) (body_checks (vessels_of s) (movements_of s) s) tt z)
 
-  pub good-names : names ≡ false
-  good-names = body.0
+  pub good_names : names ≡ false
+  good_names = body.0
 
-  pub good-entries : first entries ≡ 0
-  good-entries = body.1
+  pub good_entries : first entries ≡ 0
+  good_entries = body.1

@@ -1,17 +1,14 @@
 -- Reading's numbers on small sheets, as one table and one theorem: a sheet of three vessels and two movements, then the same with one thing wrong in each row.
 -- And what asking for the movements of that sheet yields.
 -- Assumes nothing.
-use Prim.Native.Nat.{ℕ}
-use mathlib.Core.Path.{◌≡◌, refl}
-use mathlib.Core.List.{List, [], ◌∷◌, ◌++◌, map}
-use lib.ListN.{set, take}
-use Rattle.book.specs.Head.{same, allZero}
-use Rattle.fields.specs.Bytes.{valueIn, groups, exists}
-use Rattle.fields.specs.Movements.{entriesChecks}
-use Rattle.fields.specs.Layout.{movementsOff}
-use Rattle.names.specs.Names.{letters, wellFormed}
-use Rattle.sheet.specs.Sheet.{layoutOff, noSheet, readNumber}
-use Rattle.sheet.specs.Answers.{askedNumber, movementAsked}
+use Rattle.std.proofs.Common.{ℕ, ◌≡◌, refl, List, [], ◌∷◌, ◌++◌, map, set, take}
+use Rattle.book.specs.Head.{same, all_zero}
+use Rattle.fields.specs.Bytes.{value_in, groups, exists}
+use Rattle.fields.specs.Movements.{entries_checks}
+use Rattle.fields.specs.Layout.{movements_off}
+use Rattle.names.specs.Names.{letters, well_formed}
+use Rattle.sheet.specs.Sheet.{layout_off, no_sheet, read_number}
+use Rattle.sheet.specs.Answers.{asked_number, movement_asked}
 
 -- The names `A`, `B~` and `C`; from 1 to 2 at minute 1, 3 grams, age 0; from 2 to 0 at minute 258, 5 grams, age 259.
 unfoldable pub bytes : List ℕ
@@ -25,8 +22,8 @@ bytes =
     ∷ []
 
 -- The same three vessels without a movement.
-unfoldable pub noMovement : List ℕ
-noMovement = set (set (take 48 bytes) 8 0) 20 48
+unfoldable pub no_movement : List ℕ
+no_movement = set (set (take 48 bytes) 8 0) 20 48
 
 -- A sheet, and the number that reading it gives.
 pub record Sample : Type 0 where
@@ -56,7 +53,7 @@ samples =
     ∷ sample 16 (set (set bytes 8 0) 9 16)
     ∷ sample 16 (set bytes 8 1)
     ∷ sample 16 (set bytes 8 0)
-    ∷ sample 0 noMovement
+    ∷ sample 0 no_movement
     -- each cause of 16 by itself: the offset of the names, that of the movements, the length, the real length
     ∷ sample 16 (set bytes 12 25)
     ∷ sample 16 (set bytes 16 49)
@@ -84,30 +81,30 @@ samples =
     ∷ sample 16 (set (set bytes 12 25) 24 0)
     ∷ sample 17 (set (set bytes 24 0) 48 3)
     -- without a movement each of the others is looked at as before
-    ∷ sample 14 (set noMovement 0 81)
-    ∷ sample 2 (set noMovement 4 4)
-    ∷ sample 3 (set noMovement 6 0)
-    ∷ sample 15 (set noMovement 9 17)
-    ∷ sample 16 (set noMovement 12 25)
-    ∷ sample 16 (set noMovement 16 49)
-    ∷ sample 16 (set noMovement 20 60)
-    ∷ sample 16 (take 47 noMovement)
-    ∷ sample 16 (noMovement ++ (0 ∷ []))
-    ∷ sample 17 (set noMovement 40 65)
+    ∷ sample 14 (set no_movement 0 81)
+    ∷ sample 2 (set no_movement 4 4)
+    ∷ sample 3 (set no_movement 6 0)
+    ∷ sample 15 (set no_movement 9 17)
+    ∷ sample 16 (set no_movement 12 25)
+    ∷ sample 16 (set no_movement 16 49)
+    ∷ sample 16 (set no_movement 20 60)
+    ∷ sample 16 (take 47 no_movement)
+    ∷ sample 16 (no_movement ++ (0 ∷ []))
+    ∷ sample 17 (set no_movement 40 65)
     -- an age beside what is wrong changes nothing
     ∷ sample 17 (set (set bytes 24 0) 51 255)
     ∷ sample 5 (set (set bytes 48 3) 51 255)
     ∷ []
 
-pub read-samples : map (λ c. readNumber c.sheet) samples ≡ map (λ c. c.number) samples
-unfolding sample samples bytes noMovement readNumber noSheet movementsOff layoutOff valueIn same groups exists wellFormed letters allZero entriesChecks
-read-samples = refl
+pub read_samples : map (λ c. read_number c.sheet) samples ≡ map (λ c. c.number) samples
+unfolding sample samples bytes no_movement read_number no_sheet movements_off layout_off value_in same groups exists well_formed letters all_zero entries_checks
+read_samples = refl
 
 -- What asking for the movements of the sample yields: each number from all of its bytes, the low byte first.
-pub asked-samples : map (movementAsked bytes) (0 ∷ 1 ∷ 2 ∷ [])
+pub asked_samples : map (movement_asked bytes) (0 ∷ 1 ∷ 2 ∷ [])
     ≡ record { number = 0; source = 1; destination = 2; minute = 1; weight = 3; age = 0 }
     ∷ record { number = 0; source = 2; destination = 0; minute = 258; weight = 5; age = 259 }
     ∷ record { number = 20; source = 0; destination = 0; minute = 0; weight = 0; age = 0 }
     ∷ []
-unfolding bytes askedNumber readNumber noSheet movementsOff layoutOff valueIn same groups exists wellFormed letters allZero entriesChecks
-asked-samples = refl
+unfolding bytes asked_number read_number no_sheet movements_off layout_off value_in same groups exists well_formed letters all_zero entries_checks
+asked_samples = refl

@@ -4,58 +4,58 @@ use Rattle.refusal.specs.Numbers.{Check, ◌if◌, first, ifZero}
 use Rattle.sheet.specs.declared.answer.Reading.{Reading}
 use Rattle.sheet.specs.declared.answer.Movement.{Movement}
 use Rattle.fields.specs.declared.entries.Entry.{Entry}
-use Rattle.fields.specs.Layout.{nameSize, nameStart, entriesStart}
-use Rattle.names.specs.Names.{shortName}
-use Rattle.fields.specs.Movements.{entrySize, entryIn, noEntry}
-use Rattle.sheet.specs.Sheet.{ruleOf, vesselsOf, movementsOf, readNumber}
+use Rattle.fields.specs.Layout.{name_size, name_start, entries_start}
+use Rattle.names.specs.Names.{short_name}
+use Rattle.fields.specs.Movements.{entry_size, entry_in, no_entry}
+use Rattle.sheet.specs.Sheet.{rule_of, vessels_of, movements_of, read_number}
 
-abbrev pub headerOf : List ℕ → Reading
-headerOf s = record { number = 0; rule = ruleOf s; vessels = vesselsOf s; movements = movementsOf s }
+abbrev pub header_of : List ℕ → Reading
+header_of s = record { number = 0; rule = rule_of s; vessels = vessels_of s; movements = movements_of s }
 
-abbrev pub refusedReading : ℕ → Reading
-refusedReading n = record { number = n; rule = 0; vessels = 0; movements = 0 }
+abbrev pub refused_reading : ℕ → Reading
+refused_reading n = record { number = n; rule = 0; vessels = 0; movements = 0 }
 
 -- "Reading a sheet yields rule, V and M".
 abbrev pub reading : List ℕ → Reading
-reading s = ifZero (readNumber s) (headerOf s) (refusedReading (readNumber s))
+reading s = ifZero (read_number s) (header_of s) (refused_reading (read_number s))
 
 -- What asking for a movement answers: a number, and the movement.
-abbrev pub movementAnswer : ℕ → Entry → Movement
-movementAnswer n e = record { number = n; source = e.source; destination = e.destination; minute = e.minute; weight = e.weight; age = e.age }
+abbrev pub movement_answer : ℕ → Entry → Movement
+movement_answer n e = record { number = n; source = e.source; destination = e.destination; minute = e.minute; weight = e.weight; age = e.age }
 
 -- The movement at an index of a sheet that reads well.
-abbrev pub movementAt : List ℕ → ℕ → Movement
-movementAt s index = movementAnswer 0 (entryIn (drop (entriesStart (vesselsOf s) + entrySize * index) s))
+abbrev pub movement_at : List ℕ → ℕ → Movement
+movement_at s index = movement_answer 0 (entry_in (drop (entries_start (vessels_of s) + entry_size * index) s))
 
 -- The sheet's own number, then a check of what is asked for.
-unfoldable pub askedNumber : List ℕ → Check → ℕ
-askedNumber s check = ifZero (readNumber s) (first (check ∷ [])) (readNumber s)
+unfoldable pub asked_number : List ℕ → Check → ℕ
+asked_number s check = ifZero (read_number s) (first (check ∷ [])) (read_number s)
 
 -- "Asking for a movement by its index yields s, d, t, q and checks the same, then 20"; it "yields the age too".
-abbrev pub movementNumber : List ℕ → ℕ → ℕ
-movementNumber s index = askedNumber s (20 if leb (movementsOf s) index)
+abbrev pub movement_number : List ℕ → ℕ → ℕ
+movement_number s index = asked_number s (20 if leb (movements_of s) index)
 
-abbrev pub movementAsked : List ℕ → ℕ → Movement
-movementAsked s index = ifZero (movementNumber s index) (movementAt s index) (movementAnswer (movementNumber s index) noEntry)
+abbrev pub movement_asked : List ℕ → ℕ → Movement
+movement_asked s index = ifZero (movement_number s index) (movement_at s index) (movement_answer (movement_number s index) no_entry)
 
 -- "5 after the sheet's own"
-abbrev pub nameNumber : List ℕ → ℕ → ℕ
-nameNumber s vessel = askedNumber s (5 if leb (vesselsOf s) vessel)
+abbrev pub name_number : List ℕ → ℕ → ℕ
+name_number s vessel = asked_number s (5 if leb (vessels_of s) vessel)
 
 -- The eight bytes of a vessel's name.
-abbrev pub nameBytes : List ℕ → ℕ → List ℕ
-nameBytes s vessel = take nameSize (drop (nameStart vessel) s)
+abbrev pub name_bytes : List ℕ → ℕ → List ℕ
+name_bytes s vessel = take name_size (drop (name_start vessel) s)
 
 -- "Asking for a vessel's name yields that part of the sheet itself without its zeros, and on any refusal the empty part".
-abbrev pub nameAsked : List ℕ → ℕ → List ℕ
-nameAsked s vessel = ifZero (nameNumber s vessel) (shortName (nameBytes s vessel)) []
+abbrev pub name_asked : List ℕ → ℕ → List ℕ
+name_asked s vessel = ifZero (name_number s vessel) (short_name (name_bytes s vessel)) []
 
 -- Where in the sheet that part starts: at the name, and on any refusal at the sheet's start.
-abbrev pub namePlace : List ℕ → ℕ → ℕ
-namePlace s vessel = ifZero (nameNumber s vessel) (nameStart vessel) 0
+abbrev pub name_place : List ℕ → ℕ → ℕ
+name_place s vessel = ifZero (name_number s vessel) (name_start vessel) 0
 
 -- The part that asking for a name gives: its bytes, and that it lies in the sheet itself, at its place. A pointer is a block of memory and a place in it.
 pub record NamePart (s : List ℕ) (vessel : ℕ) (sheetAt : ℕ × ℕ) (part : List ℕ) (part_at : ℕ × ℕ) : Type 0 where
-  pub bytes : part ≡ nameAsked s vessel
+  pub bytes : part ≡ name_asked s vessel
   pub block : part_at.0 ≡ sheetAt.0
-  pub place : part_at.1 ≡ namePlace s vessel + sheetAt.1
+  pub place : part_at.1 ≡ name_place s vessel + sheetAt.1

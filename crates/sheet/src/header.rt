@@ -1,8 +1,8 @@
 // The header of a sheet: its mark, its numbers, and where its parts lie.
 ghost use Rattle.std.specs.Prelude.{◌≡◌, ◌≤◌, length};
 ghost use Rattle.refusal.specs.Numbers.{first};
-ghost use Rattle.fields.specs.Layout.{headerSize, Within};
-ghost use Rattle.sheet.specs.Sheet.{noSheet, layoutOff, fieldChecks, headerChecks};
+ghost use Rattle.fields.specs.Layout.{header_size, Within};
+ghost use Rattle.sheet.specs.Sheet.{no_sheet, layout_off, field_checks, header_checks};
 
 use fields::bytes::{read16, read32};
 use fields::layout::{
@@ -12,7 +12,7 @@ use fields::layout::{
 
 // Whether the sheet is too short for a header, or begins with another mark.
 fn no_sheet(sheet: &[u8]) -> bool
-    ensures { result ≡ noSheet sheet.now }
+    ensures { result ≡ no_sheet sheet.now }
 {
     if sheet.len() < HEADER_SIZE {
         return true;
@@ -23,8 +23,8 @@ fn no_sheet(sheet: &[u8]) -> bool
 
 // Whether an offset, the length field or the real length is wrong.
 fn layout_off(sheet: &[u8], vessels: u32, movements: u32) -> bool
-    requires { (headerSize ≤ length sheet.now) × Within vessels movements }
-    ensures { result ≡ layoutOff vessels movements sheet.now }
+    requires { (header_size ≤ length sheet.now) × Within vessels movements }
+    ensures { result ≡ layout_off vessels movements sheet.now }
 {
     let start = HEADER_SIZE + NAME_SIZE * (vessels as usize);
     let size = start + ENTRY_SIZE * (movements as usize);
@@ -42,8 +42,8 @@ fn layout_off(sheet: &[u8], vessels: u32, movements: u32) -> bool
 
 // The first check that the header's numbers fail, or 0.
 fn field_number(sheet: &[u8], rule: u32, vessels: u32, movements: u32) -> u32
-    requires { headerSize ≤ length sheet.now }
-    ensures { result ≡ first (fieldChecks rule vessels movements sheet.now) }
+    requires { header_size ≤ length sheet.now }
+    ensures { result ≡ first (field_checks rule vessels movements sheet.now) }
 {
     let open = ledger::opening::open_number(rule, vessels);
     if open != 0 {
@@ -60,7 +60,7 @@ fn field_number(sheet: &[u8], rule: u32, vessels: u32, movements: u32) -> u32
 
 // The first check that the header fails, or 0.
 pub fn header_number(sheet: &[u8]) -> u32
-    ensures { result ≡ first (headerChecks sheet.now) }
+    ensures { result ≡ first (header_checks sheet.now) }
 {
     if no_sheet(sheet) {
         return refusal::NO_SHEET;

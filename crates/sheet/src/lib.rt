@@ -3,9 +3,9 @@
 #![tactic(auto)]
 
 ghost use Rattle.std.specs.Prelude.{◌≡◌, ◌<◌, ◌≤◌, length};
-ghost use Rattle.fields.specs.Layout.{headerSize};
-ghost use Rattle.sheet.specs.Sheet.{movementsOf, readNumber};
-ghost use Rattle.sheet.specs.Answers.{headerOf, reading, movementAt, movementAsked, nameNumber, NamePart};
+ghost use Rattle.fields.specs.Layout.{header_size};
+ghost use Rattle.sheet.specs.Sheet.{movements_of, read_number};
+ghost use Rattle.sheet.specs.Answers.{header_of, reading, movement_at, movement_asked, name_number, NamePart};
 
 use answer::{Movement, Reading};
 use fields::bytes::{read16, read32};
@@ -17,8 +17,8 @@ mod reader; // reader.rt: all checks of a sheet, in order
 
 // The numbers of a header.
 fn header_read(sheet: &[u8]) -> Reading
-    requires { headerSize ≤ length sheet.now }
-    ensures { result ≡ headerOf sheet.now }
+    requires { header_size ≤ length sheet.now }
+    ensures { result ≡ header_of sheet.now }
 {
     let rule = read16(sheet, RULE_AT);
     let vessels = read16(sheet, VESSELS_AT);
@@ -49,8 +49,8 @@ pub fn read(sheet: &[u8]) -> Reading
 
 // The movement at an index of a sheet that is known to read well: the sheet is not read again.
 pub fn movement_known(sheet: &[u8], index: u32) -> Movement
-    requires { (readNumber sheet.now ≡ 0) × (index < movementsOf sheet.now) }
-    ensures { result ≡ movementAt sheet.now index }
+    requires { (read_number sheet.now ≡ 0) × (index < movements_of sheet.now) }
+    ensures { result ≡ movement_at sheet.now index }
 {
     let vessels = read16(sheet, VESSELS_AT) as usize;
     let at = HEADER_SIZE + NAME_SIZE * vessels + ENTRY_SIZE * (index as usize);
@@ -80,7 +80,7 @@ fn movement_refused(number: u32) -> Movement
 
 // The movement at an index.
 pub fn movement(sheet: &[u8], index: u32) -> Movement
-    ensures { result ≡ movementAsked sheet.now index }
+    ensures { result ≡ movement_asked sheet.now index }
 {
     let r = read(sheet);
     if r.number != 0 {
@@ -94,7 +94,7 @@ pub fn movement(sheet: &[u8], index: u32) -> Movement
 
 // The number of asking for a vessel's name.
 pub fn name_number(sheet: &[u8], vessel: u32) -> u32
-    ensures { result ≡ nameNumber sheet.now vessel }
+    ensures { result ≡ name_number sheet.now vessel }
 {
     let r = read(sheet);
     if r.number != 0 {

@@ -1,26 +1,18 @@
 -- Laws of closing up. Which pieces stay; then the loops: while pieces close up, the first j have their places and those from i on are to
 -- come; while lifted pieces are put behind, c of them are pasted from place j on.
 -- Assumes nothing.
-use mathlib.Core.Path.{◌≡◌, refl, sym, ap, ◌∙◌}
-use mathlib.Core.Bool.{Bool, true, false, cond}
-use mathlib.Core.List.{List, [], ◌∷◌, ◌++◌, append_assoc, append-nil}
-use Prim.Native.Nat.{ℕ, suc, ◌+◌, ◌*◌, ◌≤◌, ◌<◌}
-use native.Mathlib.Numerals.{add-one}
-use native.Mathlib.Omega.{arith}
-use lib.Dec.{eqb}
-use lib.ListN.{length, get_or, drop, drop_of_length-le, length-append}
-use lib.Seq.{drop-cons, drop-set-lt, paste, paste-zero, paste-suc, length-paste}
-use borrow.Author.Tests.{ne_eqb}
+use Rattle.std.proofs.Common.{◌≡◌, refl, sym, ap, ◌∙◌, Bool, true, false, cond, List, [], ◌∷◌, ◌++◌, append_assoc, append-nil, ℕ, suc, ◌+◌, ◌*◌, ◌≤◌, ◌<◌, add-one, arith, eqb, length, get_or, drop, drop_of_length-le, length-append, drop-cons, drop-set-lt, ne_eqb}
+use lib.Seq.{paste, paste-zero, paste-suc, length-paste}
 use Rattle.table.specs.declared.Piece.{Piece}
 use Rattle.table.specs.Pieces.{no_piece, All, done, also}
-use Rattle.table.specs.Table.{pieces_of, lay, over, pieceIn, put_in}
+use Rattle.table.specs.Table.{pieces_of, lay, over, piece_in, put_in}
 use Rattle.table.specs.Closing.{VACANT, Present, stay, settled, Settling, Closes}
-use Rattle.table.proofs.Table.{length-pieces, pieces-over, rest_over, pieces-take, formed, same-behind, put-pieces, put-behind, put-more, put_same}
+use Rattle.table.proofs.Table.{length_pieces, pieces_over, rest_over, pieces_take, formed, same_behind, put_pieces, put_behind, put_more, put_same}
 
-pub stay-append : (xs ys : List Piece) → stay (xs ++ ys) ≡ stay xs ++ stay ys
+pub stay_append : (xs ys : List Piece) → stay (xs ++ ys) ≡ stay xs ++ stay ys
 unfolding stay
-stay-append [] ys = refl
-stay-append (x ∷ xs) ys = go (eqb x.holder VACANT) (stay-append xs ys)
+stay_append [] ys = refl
+stay_append (x ∷ xs) ys = go (eqb x.holder VACANT) (stay_append xs ys)
   where
     go : (t : Bool) → stay (xs ++ ys) ≡ stay xs ++ stay ys
         → cond t (stay (xs ++ ys)) (x ∷ stay (xs ++ ys)) ≡ cond t (stay xs) (x ∷ stay xs) ++ stay ys
@@ -33,40 +25,40 @@ stay_all [] done = refl
 stay_all (p ∷ ps) (also h u) = rw (ne_eqb p.holder VACANT (λ e. omega arith)) (ap (λ (l : List Piece). p ∷ l) (stay_all ps u))
 
 -- if as many stay as there are, all do
-stay-few : (ps : List Piece) → length (stay ps) ≤ length ps
+stay_few : (ps : List Piece) → length (stay ps) ≤ length ps
 unfolding stay
-stay-few [] = omega arith
-stay-few (p ∷ ps) = go (eqb p.holder VACANT) (stay-few ps)
+stay_few [] = omega arith
+stay_few (p ∷ ps) = go (eqb p.holder VACANT) (stay_few ps)
   where
     go : (c : Bool) → length (stay ps) ≤ length ps → length (cond c (stay ps) (p ∷ stay ps)) ≤ suc (length ps)
     go true h = omega arith
     go false h = omega arith
 
-stay-same : (ps : List Piece) → length (stay ps) ≡ length ps → stay ps ≡ ps
+stay_same : (ps : List Piece) → length (stay ps) ≡ length ps → stay ps ≡ ps
 unfolding stay
-stay-same [] e = refl
-stay-same (p ∷ ps) e = go (eqb p.holder VACANT) e (stay-same ps)
+stay_same [] e = refl
+stay_same (p ∷ ps) e = go (eqb p.holder VACANT) e (stay_same ps)
   where
     go : (c : Bool) → length (cond c (stay ps) (p ∷ stay ps)) ≡ suc (length ps) → (length (stay ps) ≡ length ps → stay ps ≡ ps)
         → cond c (stay ps) (p ∷ stay ps) ≡ p ∷ ps
-    go true e i = absurd (omega (arith, stay-few ps))
+    go true e i = absurd (omega (arith, stay_few ps))
     go false e i = ap (λ (l : List Piece). p ∷ l) (i (omega arith))
 
 -- the pieces close up
-pub close-start : (n : ℕ) (t : List ℕ) → pieces_of 0 t ++ stay (drop 0 (pieces_of n t)) ≡ stay (pieces_of n t)
+pub close_start : (n : ℕ) (t : List ℕ) → pieces_of 0 t ++ stay (drop 0 (pieces_of n t)) ≡ stay (pieces_of n t)
 unfolding pieces_of
-close-start n t = refl
+close_start n t = refl
 
 module _ (n i j : ℕ) (t : List ℕ) where
-  pub close-next : (j' : ℕ) (t' : List ℕ) (z : List Piece) (p : Piece) → i < n → j ≤ i → p ≡ pieceIn n t i → t' ≡ put_in n j p t
+  pub close_next : (j' : ℕ) (t' : List ℕ) (z : List Piece) (p : Piece) → i < n → j ≤ i → p ≡ piece_in n t i → t' ≡ put_in n j p t
       → j' ≡ cond (eqb p.holder VACANT) j (j + 1) → pieces_of j t ++ stay (drop i (pieces_of n t)) ≡ z
       → pieces_of j' t' ++ stay (drop (i + 1) (pieces_of n t')) ≡ z
   unfolding stay
-  close-next j' t' z p h hj ep et ej e =
-      let g : i < length (pieces_of n t) = rw length-pieces h in
+  close_next j' t' z p h hj ep et ej e =
+      let g : i < length (pieces_of n t) = rw length_pieces h in
       let f : pieces_of j t ++ stay (p ∷ drop (suc i) (pieces_of n t)) ≡ z = rw ep (rw (drop-cons (pieces_of n t) i no_piece g) at e) in
       let r : drop (suc i) (pieces_of n t') ≡ drop (suc i) (pieces_of n t) =
-      ap (drop (suc i)) (put-pieces n j t t' p et) ∙ drop-set-lt (suc i) (pieces_of n t) j p (omega arith) in
+      ap (drop (suc i)) (put_pieces n j t t' p et) ∙ drop-set-lt (suc i) (pieces_of n t) j p (omega arith) in
       rw (ej, add-one i, r) (go (eqb p.holder VACANT) f)
     where
       more : List Piece
@@ -74,34 +66,34 @@ module _ (n i j : ℕ) (t : List ℕ) where
 
       go : (c : Bool) → pieces_of j t ++ cond c more (p ∷ more) ≡ z → pieces_of (cond c j (j + 1)) t' ++ more ≡ z
       go true f = rw (put_same n j t t' p et (omega arith)) f
-      go false f = rw (put-more n j t t' p et (omega arith), append_assoc) f
+      go false f = rw (put_more n j t t' p et (omega arith), append_assoc) f
 
-  pub close-behind : (t₀ t' : List ℕ) (p : Piece) → t' ≡ put_in n j p t → drop (4 * n) t ≡ drop (4 * n) t₀ → drop (4 * n) t' ≡ drop (4 * n) t₀
-  close-behind t₀ t' p et e = put-behind n j t t' p et ∙ e
+  pub close_behind : (t₀ t' : List ℕ) (p : Piece) → t' ≡ put_in n j p t → drop (4 * n) t ≡ drop (4 * n) t₀ → drop (4 * n) t' ≡ drop (4 * n) t₀
+  close_behind t₀ t' p et e = put_behind n j t t' p et ∙ e
 
-  pub close-end : (t₀ : List ℕ) → n ≤ i → pieces_of j t ++ stay (drop i (pieces_of n t)) ≡ stay (pieces_of n t₀) → j ≤ i → i ≤ n
+  pub close_end : (t₀ : List ℕ) → n ≤ i → pieces_of j t ++ stay (drop i (pieces_of n t)) ≡ stay (pieces_of n t₀) → j ≤ i → i ≤ n
       → drop (4 * n) t ≡ drop (4 * n) t₀ → Closes n t₀ t j
   unfolding stay
-  close-end t₀ h e hj hi eb = record {
-    stands = sym (append-nil (pieces_of j t)) ∙ (rw (drop_of_length-le (pieces_of n t) {i = i} (rw length-pieces h)) at e);
+  close_end t₀ h e hj hi eb = record {
+    stands = sym (append-nil (pieces_of j t)) ∙ (rw (drop_of_length-le (pieces_of n t) {i = i} (rw length_pieces h)) at e);
     most = omega arith;
     behind = eb;
   }
 
-pub next-most : (j j' i : ℕ) (c : Bool) → j' ≡ cond c j (j + 1) → j ≤ i → j' ≤ i + 1
-next-most j j' i true e h = omega arith
-next-most j j' i false e h = omega arith
+pub next_most : (j j' i : ℕ) (c : Bool) → j' ≡ cond c j (j + 1) → j ≤ i → j' ≤ i + 1
+next_most j j' i true e h = omega arith
+next_most j j' i false e h = omega arith
 
 -- none has gone
 pub no_gaps : (n gone : ℕ) (t : List ℕ) → length (stay (pieces_of n t)) + gone ≡ n → gone ≡ 0 → Closes n t t n
-no_gaps n gone t e z = record { stands = sym (stay-same (pieces_of n t) (omega (arith, length-pieces n t))); most = omega arith; behind = refl }
+no_gaps n gone t e z = record { stands = sym (stay_same (pieces_of n t) (omega (arith, length_pieces n t))); most = omega arith; behind = refl }
 
 -- c of the lifted pieces are put behind the first j
 abbrev pub laid : ℕ → ℕ → List ℕ → List ℕ → ℕ → List ℕ
 laid j g t l c = over (j + g) (paste (pieces_of (j + g) t) j (pieces_of g l) c) t
 
-pub append-start : (j g : ℕ) (t l : List ℕ) → 4 * (j + g) ≤ length t → t ≡ laid j g t l 0
-append-start j g t l h = formed (j + g) t h ∙ ap (λ (ps : List Piece). over (j + g) ps t) (paste-zero (pieces_of (j + g) t) j (pieces_of g l))
+pub append_start : (j g : ℕ) (t l : List ℕ) → 4 * (j + g) ≤ length t → t ≡ laid j g t l 0
+append_start j g t l h = formed (j + g) t h ∙ ap (λ (ps : List Piece). over (j + g) ps t) (paste-zero (pieces_of (j + g) t) j (pieces_of g l))
 
 module _ (j g c : ℕ) (t₀ t l : List ℕ) (e : t ≡ laid j g t₀ l c) where
   abbrev before : List Piece
@@ -110,34 +102,34 @@ module _ (j g c : ℕ) (t₀ t l : List ℕ) (e : t ≡ laid j g t₀ l c) where
   abbrev lifts : List Piece
   lifts = pieces_of g l
 
-  pub append-next : (t' : List ℕ) (p : Piece) → c < g → p ≡ get_or lifts c no_piece → t' ≡ put_in (j + g) (j + c) p t → t' ≡ laid j g t₀ l (c + 1)
-  append-next t' p h ep et =
-      let lb : length before ≡ j + g = length-pieces (j + g) t₀ in
-      let ll : length lifts ≡ g = length-pieces g l in
+  pub append_next : (t' : List ℕ) (p : Piece) → c < g → p ≡ get_or lifts c no_piece → t' ≡ put_in (j + g) (j + c) p t → t' ≡ laid j g t₀ l (c + 1)
+  append_next t' p h ep et =
+      let lb : length before ≡ j + g = length_pieces (j + g) t₀ in
+      let ll : length lifts ≡ g = length_pieces g l in
       let lp : length (paste before j lifts c) ≡ j + g = length-paste before j lifts c (omega arith) (omega arith) ∙ lb in
-      let ps : pieces_of (j + g) t ≡ paste before j lifts c = ap (pieces_of (j + g)) e ∙ pieces-over (j + g) _ (drop (4 * (j + g)) t₀) lp in
+      let ps : pieces_of (j + g) t ≡ paste before j lifts c = ap (pieces_of (j + g)) e ∙ pieces_over (j + g) _ (drop (4 * (j + g)) t₀) lp in
       let rs : drop (4 * (j + g)) t ≡ drop (4 * (j + g)) t₀ = ap (drop (4 * (j + g))) e ∙ rest_over (j + g) _ (drop (4 * (j + g)) t₀) lp in
       et ∙ rw (ps, rs, ep, add-one) (ap (λ (ps : List Piece). over (j + g) ps t₀) (paste-suc before j lifts c no_piece (omega arith) (omega arith)))
 
-  pub append-end : c ≤ g → g ≤ c → t ≡ over (j + g) (pieces_of j t₀ ++ pieces_of g l) t₀
-  append-end h k =
+  pub append_end : c ≤ g → g ≤ c → t ≡ over (j + g) (pieces_of j t₀ ++ pieces_of g l) t₀
+  append_end h k =
       let ec : c ≡ g = omega arith in
-      let no : drop (j + g) before ≡ [] = drop_of_length-le before {i = j + g} (let q = length-pieces (j + g) t₀ in omega arith) in
-      e ∙ rw (ec, no, append-nil, pieces-take j (j + g) t₀ (omega arith), pieces-take g g l (omega arith))
+      let no : drop (j + g) before ≡ [] = drop_of_length-le before {i = j + g} (let q = length_pieces (j + g) t₀ in omega arith) in
+      e ∙ rw (ec, no, append-nil, pieces_take j (j + g) t₀ (omega arith), pieces_take g g l (omega arith))
 
 -- both: the pieces settle
 module _ (n gone g j : ℕ) (t t' l : List ℕ) (asked : Settling n gone g t l) (closes : Closes n t t' j) where
   pieces : pieces_of j t' ++ pieces_of g l ≡ settled n t g l
   pieces = rw closes.stands
 
-  pub settle-count : j + g ≡ length (settled n t g l)
-  settle-count = let a : length (pieces_of j t' ++ pieces_of g l) ≡ j + g = simp (length-append, length-pieces) in sym a ∙ ap length pieces
+  pub settle_count : j + g ≡ length (settled n t g l)
+  settle_count = let a : length (pieces_of j t' ++ pieces_of g l) ≡ j + g = simp (length-append, length_pieces) in sym a ∙ ap length pieces
 
-  pub settle-room : length t' ≡ length t → 4 * (j + g) ≤ length t'
-  settle-room e = rw (e, settle-count) asked.fits
+  pub settle_room : length t' ≡ length t → 4 * (j + g) ≤ length t'
+  settle_room e = rw (e, settle_count) asked.fits
 
-  pub settle-table : (t'' : List ℕ) → t'' ≡ over (j + g) (pieces_of j t' ++ pieces_of g l) t' → t'' ≡ lay (settled n t g l) t
-  settle-table t'' e =
-      let stayed : j ≡ length (stay (pieces_of n t)) = sym (length-pieces j t') ∙ ap length closes.stands in
+  pub settle_table : (t'' : List ℕ) → t'' ≡ over (j + g) (pieces_of j t' ++ pieces_of g l) t' → t'' ≡ lay (settled n t g l) t
+  settle_table t'' e =
+      let stayed : j ≡ length (stay (pieces_of n t)) = sym (length_pieces j t') ∙ ap length closes.stands in
       let more : n ≤ j + g = omega (arith, asked.vacant, asked.filled) in
-      e ∙ rw (pieces, same-behind n (j + g) t t' more closes.behind, settle-count)
+      e ∙ rw (pieces, same_behind n (j + g) t t' more closes.behind, settle_count)

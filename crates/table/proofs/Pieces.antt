@@ -1,47 +1,40 @@
 -- Laws of sums over pieces, and of a property of every piece.
 -- Assumes nothing.
-use mathlib.Core.Path.{◌≡◌, refl}
-use mathlib.Core.Logic.{◌≢◌}
-use mathlib.Core.Bool.{Bool, true, false, cond}
-use mathlib.Core.List.{List, [], ◌∷◌, ◌++◌}
-use Prim.Native.Nat.{ℕ, ◌+◌, ◌≤◌, min}
-use native.Mathlib.Omega.{arith}
-use lib.Dec.{eqb}
-use lib.ListN.{length}
-use borrow.Author.Tests.{eqb-true, eqb-false}
+use Rattle.std.proofs.Common.{◌≡◌, refl, ◌≢◌, Bool, true, false, cond, List, [], ◌∷◌, ◌++◌, ℕ, ◌+◌, ◌≤◌, min, arith, eqb, length, eqb-true}
+use borrow.Author.Tests.{eqb-false}
 use Rattle.table.specs.declared.Piece.{Piece}
-use Rattle.table.specs.Pieces.{ofWeight, ifAny, only, total, Kind, weigh, sum, All, done, also}
+use Rattle.table.specs.Pieces.{of_weight, if_any, only, total, Kind, weigh, sum, All, done, also}
 
-pub total-append : (f : Piece → ℕ) (ps qs : List Piece) → total f (ps ++ qs) ≡ total f ps + total f qs
-total-append f [] qs = omega arith
-total-append f (p ∷ ps) qs = omega (arith, total-append f ps qs)
+pub total_append : (f : Piece → ℕ) (ps qs : List Piece) → total f (ps ++ qs) ≡ total f ps + total f qs
+total_append f [] qs = omega arith
+total_append f (p ∷ ps) qs = omega (arith, total_append f ps qs)
 
-pub only-add : (b : Bool) (m n : ℕ) → only b (m + n) ≡ only b m + only b n
-only-add true m n = refl
-only-add false m n = refl
+pub only_add : (b : Bool) (m n : ℕ) → only b (m + n) ≡ only b m + only b n
+only_add true m n = refl
+only_add false m n = refl
 
 pub only_zero : (b : Bool) → only b 0 ≡ 0
 only_zero true = refl
 only_zero false = refl
 
 -- a piece without weight adds nothing, so whether it is there makes no odds
-pub sum-ifAny : (k : Kind) (p : Piece) → sum k (ifAny p) ≡ weigh k p
-sum-ifAny k p = go (eqb p.weight 0) refl
+pub sum_if_any : (k : Kind) (p : Piece) → sum k (if_any p) ≡ weigh k p
+sum_if_any k p = go (eqb p.weight 0) refl
   where
     go : (b : Bool) → eqb p.weight 0 ≡ b → sum k (cond b [] (p ∷ [])) ≡ weigh k p
     go true e = rw (eqb-true p.weight 0 e, only_zero)
     go false e = omega arith
 
-pub length-ifAny : (p : Piece) → length (ifAny p) ≡ min 1 p.weight
-length-ifAny p = go (eqb p.weight 0) refl
+pub length_if_any : (p : Piece) → length (if_any p) ≡ min 1 p.weight
+length_if_any p = go (eqb p.weight 0) refl
   where
     go : (b : Bool) → eqb p.weight 0 ≡ b → length (cond b [] (p ∷ [])) ≡ min 1 p.weight
     go true e = let h : p.weight ≡ 0 = eqb-true _ _ e in omega arith
     go false e = let h : p.weight ≢ 0 = eqb-false _ _ e in omega arith
 
 -- a piece in two parts
-pub in_two : (k : Kind) (p : Piece) (m n : ℕ) → p.weight ≡ m + n → weigh k p ≡ weigh k (ofWeight m p) + weigh k (ofWeight n p)
-in_two k p m n e = rw (e, only-add)
+pub in_two : (k : Kind) (p : Piece) (m n : ℕ) → p.weight ≡ m + n → weigh k p ≡ weigh k (of_weight m p) + weigh k (of_weight n p)
+in_two k p m n e = rw (e, only_add)
 
 module _ {ℓ} {P : Piece → Type ℓ} where
   pub all_append : {ps qs : List Piece} → All P ps → All P qs → All P (ps ++ qs)
@@ -66,8 +59,8 @@ module _ {ℓ} {P : Piece → Type ℓ} where
   all_both done done = done
   all_both (also h x) (also g y) = also (h, g) (all_both x y)
 
-  pub all-ifAny : (p : Piece) → (1 ≤ p.weight → P p) → All P (ifAny p)
-  all-ifAny p h = go (eqb p.weight 0) refl
+  pub all_if_any : (p : Piece) → (1 ≤ p.weight → P p) → All P (if_any p)
+  all_if_any p h = go (eqb p.weight 0) refl
     where
       go : (b : Bool) → eqb p.weight 0 ≡ b → All P (cond b [] (p ∷ []))
       go true e = done

@@ -4,8 +4,8 @@
 use Rattle.std.specs.Prelude.{◌≡◌, cond, List, [], ◌∷◌, ◌++◌, ℕ, ◌+◌, ◌*◌, ◌≤◌, ◌<◌, eqb, length, drop}
 use Rattle.refusal.specs.Numbers.{TOP}
 use Rattle.table.specs.declared.Piece.{Piece}
-use Rattle.table.specs.Pieces.{handTo}
-use Rattle.table.specs.Table.{mostPlaces, pieces_of}
+use Rattle.table.specs.Pieces.{hand_to}
+use Rattle.table.specs.Table.{most_places, pieces_of}
 
 -- A holder that no book can have: it marks a place whose piece has gone.
 abbrev pub VACANT : ℕ
@@ -13,7 +13,7 @@ VACANT = TOP
 
 -- the piece, gone from its place
 abbrev pub vacated : Piece → Piece
-vacated p = handTo VACANT p
+vacated p = hand_to VACANT p
 
 -- the piece is in its place
 abbrev pub Present : Piece → Type 0
@@ -30,7 +30,7 @@ settled n t g l = stay (pieces_of n t) ++ pieces_of g l
 
 -- What `settle` asks: `gone` of the n places of t are vacant, at least as many pieces are lifted, and all of them fit.
 pub record Settling (n gone g : ℕ) (t l : List ℕ) : Type 0 where
-  pub places : n ≤ mostPlaces
+  pub places : n ≤ most_places
   pub pieces : 4 * n ≤ length t
   pub vacant : length (stay (pieces_of n t)) + gone ≡ n
   pub filled : gone ≤ g

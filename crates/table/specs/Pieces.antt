@@ -9,16 +9,16 @@ abbrev pub no_piece : Piece
 no_piece = record { holder = 0; origin = 0; birth = 0; weight = 0 }
 
 -- the piece with another weight
-abbrev pub ofWeight : ℕ → Piece → Piece
-ofWeight w p = record { holder = p.holder; origin = p.origin; birth = p.birth; weight = w }
+abbrev pub of_weight : ℕ → Piece → Piece
+of_weight w p = record { holder = p.holder; origin = p.origin; birth = p.birth; weight = w }
 
 -- the piece in another vessel
-abbrev pub handTo : ℕ → Piece → Piece
-handTo d p = record { holder = d; origin = p.origin; birth = p.birth; weight = p.weight }
+abbrev pub hand_to : ℕ → Piece → Piece
+hand_to d p = record { holder = d; origin = p.origin; birth = p.birth; weight = p.weight }
 
 -- the piece, unless it has no weight
-abbrev pub ifAny : Piece → List Piece
-ifAny p = cond (eqb p.weight 0) [] (p ∷ [])
+abbrev pub if_any : Piece → List Piece
+if_any p = cond (eqb p.weight 0) [] (p ∷ [])
 
 -- the number n where the test passes, else 0
 abbrev pub only : Bool → ℕ → ℕ
@@ -42,22 +42,22 @@ weigh k p = only (k p.holder p.origin p.birth) p.weight
 abbrev pub sum : Kind → List Piece → ℕ
 sum k = total (weigh k)
 
-abbrev pub inVessel : ℕ → Kind
-inVessel v h o b = eqb h v
+abbrev pub in_vessel : ℕ → Kind
+in_vessel v h o b = eqb h v
 
-abbrev pub bornAt : ℕ → ℕ → Kind
-bornAt u t h o b = eqb o u && eqb b t
+abbrev pub born_at : ℕ → ℕ → Kind
+born_at u t h o b = eqb o u && eqb b t
 
 abbrev pub anywhere : Kind
 anywhere h o b = true
 
 -- the weight that vessel v holds
 abbrev pub held : ℕ → List Piece → ℕ
-held v = sum (inVessel v)
+held v = sum (in_vessel v)
 
 -- the weight of all pieces
-abbrev pub weightOf : List Piece → ℕ
-weightOf = sum anywhere
+abbrev pub weight_of : List Piece → ℕ
+weight_of = sum anywhere
 
 -- A property of every piece of a list.
 pub data All {ℓ} (P : Piece → Type ℓ) : List Piece → Type ℓ where

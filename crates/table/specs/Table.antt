@@ -5,13 +5,13 @@ use Rattle.table.specs.declared.Piece.{Piece}
 use Rattle.table.specs.Pieces.{no_piece}
 
 -- the piece that the first four numbers are
-abbrev pub firstPiece : List ℕ → Piece
-firstPiece t = record { holder = get_or t 0 0; origin = get_or t 1 0; birth = get_or t 2 0; weight = get_or t 3 0 }
+abbrev pub first_piece : List ℕ → Piece
+first_piece t = record { holder = get_or t 0 0; origin = get_or t 1 0; birth = get_or t 2 0; weight = get_or t 3 0 }
 
 -- the first n pieces of the table t
 unfoldable pub pieces_of : ℕ → List ℕ → List Piece
 pieces_of zero t = []
-pieces_of (suc n) t = firstPiece t ∷ pieces_of n (drop 4 t)
+pieces_of (suc n) t = first_piece t ∷ pieces_of n (drop 4 t)
 
 -- the numbers of pieces, as they lie
 unfoldable pub flat : List Piece → List ℕ
@@ -27,16 +27,16 @@ abbrev pub over : ℕ → List Piece → List ℕ → List ℕ
 over n ps t = flat ps ++ drop (4 * n) t
 
 -- the piece at place i of n
-abbrev pub pieceIn : ℕ → List ℕ → ℕ → Piece
-pieceIn n t i = get_or (pieces_of n t) i no_piece
+abbrev pub piece_in : ℕ → List ℕ → ℕ → Piece
+piece_in n t i = get_or (pieces_of n t) i no_piece
 
 -- the table with piece p at place i of n
 abbrev pub put_in : ℕ → ℕ → Piece → List ℕ → List ℕ
 put_in n i p t = over n (set (pieces_of n t) i p) t
 
 -- "Places = table length divided by 4, rounded down, but never above 4,096."
-abbrev pub mostPlaces : ℕ
-mostPlaces = 4096
+abbrev pub most_places : ℕ
+most_places = 4096
 
 unfoldable pub places_of : List ℕ → ℕ
-places_of t = min mostPlaces (length t / 4)
+places_of t = min most_places (length t / 4)

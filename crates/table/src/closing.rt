@@ -1,6 +1,6 @@
 // Pieces close up where others have gone, and lifted pieces are put at the end.
 ghost use Rattle.std.specs.Prelude.{◌≡◌, cond, ◌++◌, ◌<◌, ◌≤◌, ◌+◌, ◌*◌, eqb, length};
-ghost use Rattle.table.specs.Table.{mostPlaces, pieces_of, lay, over};
+ghost use Rattle.table.specs.Table.{most_places, pieces_of, lay, over};
 ghost use Rattle.table.specs.Closing.{VACANT, stay, settled, Settling, Closes};
 
 use crate::{Piece, piece_at, put_piece};
@@ -10,7 +10,7 @@ pub const VACANT: u32 = refusal::TOP;
 
 // The next place, after piece p was put at place j.
 fn next_place(j: usize, p: Piece) -> usize
-    requires { j < mostPlaces }
+    requires { j < most_places }
     ensures { result ≡ cond (eqb p.holder VACANT) j (j + 1) }
 {
     if p.holder == VACANT {
@@ -21,7 +21,7 @@ fn next_place(j: usize, p: Piece) -> usize
 
 // The pieces that are not vacant close up; the answer is their count. The numbers that this frees are left as they are.
 fn close_up(table: &mut [u32], n: usize) -> usize
-    requires { (n ≤ mostPlaces) × (4 * n ≤ length table.old) }
+    requires { (n ≤ most_places) × (4 * n ≤ length table.old) }
     ensures { Closes n table.old table.new result }
 {
     let mut j: usize = 0;
@@ -37,7 +37,7 @@ fn close_up(table: &mut [u32], n: usize) -> usize
 
 // The same, where it is known how many have gone: if none has, there is nothing to do.
 fn close_gaps(table: &mut [u32], n: usize, gone: usize) -> usize
-    requires { (n ≤ mostPlaces) × (4 * n ≤ length table.old) × (length (stay (pieces_of n table.old)) + gone ≡ n) }
+    requires { (n ≤ most_places) × (4 * n ≤ length table.old) × (length (stay (pieces_of n table.old)) + gone ≡ n) }
     ensures { Closes n table.old table.new result }
 {
     if gone == 0 {

@@ -2,8 +2,8 @@
 #![tactic(auto)]
 
 ghost use Rattle.std.specs.Prelude.{◌≡◌, ◌<◌, ◌≤◌, ◌*◌, length};
-ghost use Rattle.table.specs.Pieces.{ofWeight, handTo};
-ghost use Rattle.table.specs.Table.{pieceIn, put_in, places_of};
+ghost use Rattle.table.specs.Pieces.{of_weight, hand_to};
+ghost use Rattle.table.specs.Table.{piece_in, put_in, places_of};
 
 pub mod closing; // closing.rt: pieces close up where others have gone
 
@@ -33,7 +33,7 @@ pub fn places(table: &[u32]) -> usize
 // The piece at place i of n.
 pub fn piece_at(table: &[u32], n: usize, i: usize) -> Piece
     requires { (i < n) × (4 * n ≤ length table.now) }
-    ensures { result ≡ pieceIn n table.now i }
+    ensures { result ≡ piece_in n table.now i }
 {
     let at = 4 * i;
     Piece {
@@ -59,7 +59,7 @@ pub fn put_piece(table: &mut [u32], n: usize, i: usize, p: Piece)
 // The piece at a place, or none.
 pub fn piece_or_none(table: &[u32], n: usize, i: usize) -> Piece
     requires { 4 * n ≤ length table.now }
-    ensures { result ≡ pieceIn n table.now i }
+    ensures { result ≡ piece_in n table.now i }
 {
     if i < n {
         return piece_at(table, n, i);
@@ -84,7 +84,7 @@ pub fn put_if_there(table: &mut [u32], n: usize, i: usize, p: Piece)
 
 // The piece in another vessel.
 pub fn hand_to(p: Piece, holder: u32) -> Piece
-    ensures { result ≡ handTo holder p }
+    ensures { result ≡ hand_to holder p }
 {
     Piece {
         holder: holder,
@@ -96,7 +96,7 @@ pub fn hand_to(p: Piece, holder: u32) -> Piece
 
 // The piece with another weight.
 pub fn of_weight(p: Piece, weight: u32) -> Piece
-    ensures { result ≡ ofWeight weight p }
+    ensures { result ≡ of_weight weight p }
 {
     Piece {
         holder: p.holder,

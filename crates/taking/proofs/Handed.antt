@@ -1,64 +1,59 @@
 -- The pieces after what was taken is handed over: sums, their number, and what holds of each. Of any fair taking.
 -- Assumes nothing.
-use mathlib.Core.Path.{◌≡◌, refl, sym, ap}
-use mathlib.Core.Bool.{◌&&◌}
-use mathlib.Core.List.{List, [], ◌∷◌, map}
-use Prim.Native.Nat.{ℕ, ◌+◌, ◌-◌, ◌≤◌, min}
-use native.Mathlib.Omega.{arith}
-use lib.Dec.{eqb}
-use lib.ListN.{length, length-append, length-map}
+use Rattle.std.proofs.Common.{◌≡◌, refl, sym, ap, ◌&&◌, List, [], ◌∷◌, map, ℕ, ◌+◌, ◌-◌, ◌≤◌, min, arith, eqb, length, length-append}
+use lib.ListN.{length-map}
 use Rattle.table.specs.declared.Piece.{Piece}
-use Rattle.table.specs.Pieces.{handTo, only, sum, inVessel, bornAt, held, weightOf, All, done, also}
-use Rattle.table.proofs.Pieces.{total-append, only-add, only_zero, sum-ifAny, length-ifAny, all_append, all_map, all-ifAny}
+use Rattle.table.specs.Pieces.{hand_to, only, sum, in_vessel, born_at, held, weight_of, All, done, also}
+use Rattle.table.proofs.Pieces.{total_append, only_add, only_zero, sum_if_any, length_if_any, all_append, all_map, all_if_any}
 use Rattle.taking.specs.declared.Move.{Move}
 use Rattle.taking.specs.Taking.{Taken, newborn, handed}
 use Rattle.taking.proofs.Taking.{Reweigh, Fair}
 
-held-handed : (v d : ℕ) (ps : List Piece) → held v (map (handTo d) ps) ≡ only (eqb d v) (weightOf ps)
-held-handed v d [] = sym (only_zero (eqb d v))
-held-handed v d (p ∷ ps) = rw only-add (omega (arith, held-handed v d ps))
+held_handed : (v d : ℕ) (ps : List Piece) → held v (map (hand_to d) ps) ≡ only (eqb d v) (weight_of ps)
+held_handed v d [] = sym (only_zero (eqb d v))
+held_handed v d (p ∷ ps) = rw only_add (omega (arith, held_handed v d ps))
 
-births-handed : (o t d : ℕ) (ps : List Piece) → sum (bornAt o t) (map (handTo d) ps) ≡ sum (bornAt o t) ps
-births-handed o t d [] = refl
-births-handed o t d (p ∷ ps) = omega (arith, births-handed o t d ps)
+births_handed : (o t d : ℕ) (ps : List Piece) → sum (born_at o t) (map (hand_to d) ps) ≡ sum (born_at o t) ps
+births_handed o t d [] = refl
+births_handed o t d (p ∷ ps) = omega (arith, births_handed o t d ps)
 
-held-own : (v s : ℕ) {P : Piece → Type 0} {ps : List Piece} → All (λ p. (p.holder ≡ s) × P p) ps → held v ps ≡ only (eqb s v) (weightOf ps)
-held-own v s done = sym (only_zero (eqb s v))
-held-own v s (also h x) = rw (h.0, only-add) (omega (arith, held-own v s x))
+held_own : (v s : ℕ) {P : Piece → Type 0} {ps : List Piece} → All (λ p. (p.holder ≡ s) × P p) ps → held v ps ≡ only (eqb s v) (weight_of ps)
+held_own v s done = sym (only_zero (eqb s v))
+held_own v s (also h x) = rw (h.0, only_add) (omega (arith, held_own v s x))
 
-all-hand : (P Q : Piece → Type 0) {s d : ℕ} → ((p : Piece) → p.holder ≡ s → P p → Q (handTo d p)) → {ps : List Piece}
-    → All (λ p. (p.holder ≡ s) × P p) ps → All Q (map (handTo d) ps)
-all-hand P Q hand done = done
-all-hand P Q hand (also h x) = also (hand _ h.0 h.1) (all-hand P Q hand x)
+all_hand : (P Q : Piece → Type 0) {s d : ℕ} → ((p : Piece) → p.holder ≡ s → P p → Q (hand_to d p)) → {ps : List Piece}
+    → All (λ p. (p.holder ≡ s) × P p) ps → All Q (map (hand_to d) ps)
+all_hand P Q hand done = done
+all_hand P Q hand (also h x) = also (hand _ h.0 h.1) (all_hand P Q hand x)
 
-all-trivial : (ps : List Piece) → All (λ p. Unit {0}) ps
-all-trivial [] = done
-all-trivial (p ∷ ps) = also tt (all-trivial ps)
+all_trivial : (ps : List Piece) → All (λ p. Unit {0}) ps
+all_trivial [] = done
+all_trivial (p ∷ ps) = also tt (all_trivial ps)
 
 module _ (x : Move) (ps : List Piece) (r : Taken) (l : Fair x.source x.weight ps r) where
-  pub handed-length : length (handed x r) ≡ length ps + (r.split + min 1 r.born)
-  handed-length = simp (length-append, length-map, length-ifAny) (omega (arith, l.longer))
+  pub handed_length : length (handed x r) ≡ length ps + (r.split + min 1 r.born)
+  handed_length = simp (length-append, length-map, length_if_any) (omega (arith, l.longer))
 
-  pub handed-births : (o t : ℕ) → sum (bornAt o t) (handed x r)
-      ≡ sum (bornAt o t) ps + only (eqb x.source o && eqb x.birth t) (x.weight - held x.source ps)
-  handed-births o t = simp (total-append, sum-ifAny, births-handed, ← l.born-is) (omega (arith, l.parts (bornAt o t)))
+  pub handed_births : (o t : ℕ) → sum (born_at o t) (handed x r)
+      ≡ sum (born_at o t) ps + only (eqb x.source o && eqb x.birth t) (x.weight - held x.source ps)
+  handed_births o t = simp (total_append, sum_if_any, births_handed, ← l.born_is) (omega (arith, l.parts (born_at o t)))
 
-  pub handed-held : (v : ℕ) → held v (handed x r)
+  pub handed_held : (v : ℕ) → held v (handed x r)
       ≡ (held v ps - only (eqb x.source v) (x.weight - (x.weight - held x.source ps))) + only (eqb x.destination v) x.weight
-  handed-held v =
-      let g : x.weight - (x.weight - held x.source ps) ≡ weightOf r.given = omega (arith, l.makes-up, l.born-is) in
-      simp (total-append, sum-ifAny, held-handed) (rw g (omega (
+  handed_held v =
+      let g : x.weight - (x.weight - held x.source ps) ≡ weight_of r.given = omega (arith, l.makes_up, l.born_is) in
+      simp (total_append, sum_if_any, held_handed) (rw g (omega (
         arith,
-        l.parts (inVessel v),
-        held-own v x.source (l.keeps (λ p. Unit) (λ p w u q. tt) (all-trivial ps)).1,
-        only-add (eqb x.destination v) (weightOf r.given) r.born,
-        ap (only (eqb x.destination v)) l.makes-up,
+        l.parts (in_vessel v),
+        held_own v x.source (l.keeps (λ p. Unit) (λ p w u q. tt) (all_trivial ps)).1,
+        only_add (eqb x.destination v) (weight_of r.given) r.born,
+        ap (only (eqb x.destination v)) l.makes_up,
       )))
 
   -- P before gives Q afterwards
-  pub handed-all : (P Q : Piece → Type 0) → Reweigh P → ((p : Piece) → P p → Q p)
-      → ((p : Piece) → p.holder ≡ x.source → P p → Q (handTo x.destination p))
+  pub handed_all : (P Q : Piece → Type 0) → Reweigh P → ((p : Piece) → P p → Q p)
+      → ((p : Piece) → p.holder ≡ x.source → P p → Q (hand_to x.destination p))
       → (1 ≤ r.born → Q (newborn x r.born)) → All P ps → All Q (handed x r)
-  handed-all P Q c stay hand n h =
+  handed_all P Q c stay hand n h =
       let y = l.keeps P c h in
-      all_append (all_map stay y.0) (all_append (all-hand P Q hand y.1) (all-ifAny _ n))
+      all_append (all_map stay y.0) (all_append (all_hand P Q hand y.1) (all_if_any _ n))

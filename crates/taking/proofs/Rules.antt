@@ -1,14 +1,8 @@
 -- Each rule picks what document 01 says it picks. The four are instances of one law: the picked piece wins over each piece of s
 -- received later, and no piece of s received earlier wins over it.
 -- Assumes nothing.
-use mathlib.Core.Path.{◌≡◌, refl, sym}
-use mathlib.Core.Logic.{◌≢◌}
-use mathlib.Core.Bool.{Bool, true, false, cond}
-use mathlib.Core.List.{List, [], ◌∷◌}
-use Prim.Native.Nat.{ℕ, ◌≤◌, ◌<◌}
-use native.Mathlib.Omega.{arith}
-use lib.Dec.{leb, ltb, eqb}
-use borrow.Author.Tests.{leb-true, leb-false, ltb-true, ltb-false, le-leb, lt-ltb, eqb-false}
+use Rattle.std.proofs.Common.{◌≡◌, refl, sym, ◌≢◌, Bool, true, false, cond, List, [], ◌∷◌, ℕ, ◌≤◌, ◌<◌, arith, leb, ltb, eqb, leb-true, leb-false, ltb-true, ltb-false, le-leb, lt-ltb}
+use borrow.Author.Tests.{eqb-false}
 use Rattle.table.specs.declared.Piece.{Piece}
 use Rattle.table.specs.Pieces.{All, done, also}
 use Rattle.table.proofs.Pieces.{all_append, all_map}
@@ -42,9 +36,9 @@ never : ◌≡◌ {A = Bool} true false → ⊥
 never e = let z : ◌≡◌ {A = ℕ} 0 1 = cc in omega arith
 
 -- Under each rule; the four in the document's words follow.
-pub picks-best : (rule s : ℕ) (ps : List Piece) → Best (wins rule) s ps (select (wins rule) s ps)
+pub picks_best : (rule s : ℕ) (ps : List Piece) → Best (wins rule) s ps (select (wins rule) s ps)
 unfolding precedes
-picks-best rule s = best (wins rule) s (λ p x r. over (eqb rule 0) (eqb rule 1) (eqb rule 2) p.birth x.birth r.birth) (λ p x r. trans (eqb rule 0) (eqb rule 1) (eqb rule 2) p.birth x.birth r.birth)
+picks_best rule s = best (wins rule) s (λ p x r. over (eqb rule 0) (eqb rule 1) (eqb rule 2) p.birth x.birth r.birth) (λ p x r. trans (eqb rule 0) (eqb rule 1) (eqb rule 2) p.birth x.birth r.birth)
   where
     -- by the tests on the rule
     by : Bool → Bool → Bool → ℕ → ℕ → Bool
@@ -63,22 +57,22 @@ picks-best rule s = best (wins rule) s (λ p x r. over (eqb rule 0) (eqb rule 1)
     trans false false false p x r u v = lt-ltb r p (omega (arith, ltb-true x p u, ltb-true r x v))
 
 picks : (rule s : ℕ) (ps b : List Piece) (p : Piece) (a : List Piece) → select (wins rule) s ps ≡ at b p a → Best (wins rule) s ps (at b p a)
-picks rule s ps b p a e = rw e at (picks-best rule s ps)
+picks rule s ps b p a e = rw e at (picks_best rule s ps)
 
 -- earliest received; latest received; smallest birth, the earlier on a tie; largest birth, the later on a tie
 module _ (s : ℕ) (ps b : List Piece) (p : Piece) (a : List Piece) where
-  pub rule-0 : select (wins 0) s ps ≡ at b p a → All (λ r. r.holder ≢ s) b
+  pub rule_0 : select (wins 0) s ps ≡ at b p a → All (λ r. r.holder ≢ s) b
   unfolding precedes
-  rule-0 e = all_map (λ r k u. never (k u)) (picks 0 s ps b p a e).0
+  rule_0 e = all_map (λ r k u. never (k u)) (picks 0 s ps b p a e).0
 
-  pub rule-1 : select (wins 1) s ps ≡ at b p a → All (λ r. r.holder ≢ s) a
+  pub rule_1 : select (wins 1) s ps ≡ at b p a → All (λ r. r.holder ≢ s) a
   unfolding precedes
-  rule-1 e = all_map (λ r k u. never (sym (k u))) (picks 1 s ps b p a e).1
+  rule_1 e = all_map (λ r k u. never (sym (k u))) (picks 1 s ps b p a e).1
 
-  pub rule-2 : select (wins 2) s ps ≡ at b p a → All (λ r. r.holder ≡ s → p.birth < r.birth) b × All (λ r. r.holder ≡ s → p.birth ≤ r.birth) a
+  pub rule_2 : select (wins 2) s ps ≡ at b p a → All (λ r. r.holder ≡ s → p.birth < r.birth) b × All (λ r. r.holder ≡ s → p.birth ≤ r.birth) a
   unfolding precedes
-  rule-2 e = let y = picks 2 s ps b p a e in (all_map (λ r k u. leb-false r.birth p.birth (k u)) y.0, all_map (λ r k u. leb-true p.birth r.birth (k u)) y.1)
+  rule_2 e = let y = picks 2 s ps b p a e in (all_map (λ r k u. leb-false r.birth p.birth (k u)) y.0, all_map (λ r k u. leb-true p.birth r.birth (k u)) y.1)
 
-  pub rule-3 : select (wins 3) s ps ≡ at b p a → All (λ r. r.holder ≡ s → r.birth ≤ p.birth) b × All (λ r. r.holder ≡ s → r.birth < p.birth) a
+  pub rule_3 : select (wins 3) s ps ≡ at b p a → All (λ r. r.holder ≡ s → r.birth ≤ p.birth) b × All (λ r. r.holder ≡ s → r.birth < p.birth) a
   unfolding precedes
-  rule-3 e = let y = picks 3 s ps b p a e in (all_map (λ r k u. ltb-false p.birth r.birth (k u)) y.0, all_map (λ r k u. ltb-true r.birth p.birth (k u)) y.1)
+  rule_3 e = let y = picks 3 s ps b p a e in (all_map (λ r k u. ltb-false p.birth r.birth (k u)) y.0, all_map (λ r k u. ltb-true r.birth p.birth (k u)) y.1)

@@ -1,21 +1,14 @@
 -- What every taking leaves, shown once, over any selection that picks a piece of the source while there is one: nothing is lost, the
--- given pieces and what is born make up the weight wanted, and at most one piece more comes of it. `taken-law` says it of the four rules.
+-- given pieces and what is born make up the weight wanted, and at most one piece more comes of it. `taken_law` says it of the four rules.
 -- Assumes nothing.
-use mathlib.Core.Path.{◌≡◌, refl, ap}
-use mathlib.Core.Logic.{◌≢◌}
-use mathlib.Core.Bool.{Bool, true, false, cond}
-use mathlib.Core.List.{List, [], ◌∷◌, ◌++◌}
-use Prim.Native.Nat.{ℕ, zero, suc, ◌+◌, ◌-◌, ◌≤◌, min}
-use native.Mathlib.Omega.{arith}
-use lib.Dec.{leb, eqb}
-use lib.ListN.{length, length-append}
-use borrow.Author.Tests.{leb-true, leb-false, eqb-true, eqb-false, eq-eqb}
+use Rattle.std.proofs.Common.{◌≡◌, refl, ap, ◌≢◌, Bool, true, false, cond, List, [], ◌∷◌, ◌++◌, ℕ, zero, suc, ◌+◌, ◌-◌, ◌≤◌, min, arith, leb, eqb, length, length-append, leb-true, leb-false, eqb-true, eq-eqb}
+use borrow.Author.Tests.{eqb-false}
 use Rattle.table.specs.declared.Piece.{Piece}
-use Rattle.table.specs.Pieces.{ofWeight, Kind, weigh, sum, inVessel, held, weightOf, All, done, also}
-use Rattle.table.proofs.Pieces.{total-append, in_two, all_append, all_split, all_head, all_tail}
+use Rattle.table.specs.Pieces.{of_weight, Kind, weigh, sum, in_vessel, held, weight_of, All, done, also}
+use Rattle.table.proofs.Pieces.{total_append, in_two, all_append, all_split, all_head, all_tail}
 use Rattle.taking.specs.Selection.{Found, nothing, at, behind, against, select, wins}
 use Rattle.taking.specs.declared.Move.{Move}
-use Rattle.taking.specs.Taking.{Taken, stop, takeFrom, takeFound, takeNext, takeUpTo, taken}
+use Rattle.taking.specs.Taking.{Taken, stop, take_from, take_found, take_next, take_up_to, taken}
 
 -- What a selection for vessel s owes: a piece of s where it stands, or nothing where s holds no weight.
 abbrev pub Good : ℕ → List Piece → Found → Type 0
@@ -38,14 +31,14 @@ select_good better s (p ∷ ps) = go (eqb p.holder s) refl (select better s ps) 
 
 -- A property that does not turn on the weight, if there is some.
 abbrev pub Reweigh {ℓ} : (Piece → Type ℓ) → Type ℓ
-Reweigh P = (p : Piece) (w : ℕ) → 1 ≤ w → P p → P (ofWeight w p)
+Reweigh P = (p : Piece) (w : ℕ) → 1 ≤ w → P p → P (of_weight w p)
 
 -- A fair taking of `want` from s: every sum is kept, the weight wanted is given or born, s gives before anything is born,
 -- each split is a piece more, and what held of every piece still holds of those that stay and of those given, which were held by s.
 pub record Fair (s want : ℕ) (ps : List Piece) (r : Taken) : Type 1 where
   pub parts : (k : Kind) → sum k r.rest + sum k r.given ≡ sum k ps
-  pub makes-up : weightOf r.given + r.born ≡ want
-  pub born-is : r.born ≡ want - held s ps
+  pub makes_up : weight_of r.given + r.born ≡ want
+  pub born_is : r.born ≡ want - held s ps
   pub longer : length r.rest + length r.given ≡ length ps + r.split
   pub keeps : (P : Piece → Type 0) → Reweigh P → All P ps → All P r.rest × All (λ p. (p.holder ≡ s) × P p) r.given
 
@@ -57,27 +50,27 @@ pub record Law (s want : ℕ) (ps : List Piece) (r : Taken) : Type 1 where
   pub counted : length r.given ≡ r.whole + r.split
 
 module _ (s : ℕ) where
-  ours : (p : Piece) → p.holder ≡ s → weigh (inVessel s) p ≡ p.weight
+  ours : (p : Piece) → p.holder ≡ s → weigh (in_vessel s) p ≡ p.weight
   ours p e = rw (eq-eqb p.holder s e)
 
-  law-stop : (want : ℕ) (ps : List Piece) → want ≡ want - held s ps → Law s want ps (stop want ps)
-  law-stop want ps h = record {
-    fair = record { parts = λ k. omega arith; makes-up = omega arith; born-is = h; longer = omega arith; keeps = λ P c x. (x, done) };
+  law_stop : (want : ℕ) (ps : List Piece) → want ≡ want - held s ps → Law s want ps (stop want ps)
+  law_stop want ps h = record {
+    fair = record { parts = λ k. omega arith; makes_up = omega arith; born_is = h; longer = omega arith; keeps = λ P c x. (x, done) };
     one_more = omega arith;
     left_over = omega arith;
     counted = omega arith;
   }
 
-  law-from : (more : ℕ → List Piece → Taken) (want : ℕ) (b : List Piece) (p : Piece) (a : List Piece) → p.holder ≡ s → 1 ≤ want
-      → (t : Bool) → leb p.weight want ≡ t → Law s (want - p.weight) (b ++ a) (more (want - p.weight) (b ++ a)) → Law s want (b ++ (p ∷ a)) (takeFrom more want b p a t)
-  law-from more want b p a hp some true e l =
+  law_from : (more : ℕ → List Piece → Taken) (want : ℕ) (b : List Piece) (p : Piece) (a : List Piece) → p.holder ≡ s → 1 ≤ want
+      → (t : Bool) → leb p.weight want ≡ t → Law s (want - p.weight) (b ++ a) (more (want - p.weight) (b ++ a)) → Law s want (b ++ (p ∷ a)) (take_from more want b p a t)
+  law_from more want b p a hp some true e l =
       let h = leb-true p.weight want e in
       let f = l.fair in
       record {
         fair = record {
-          parts = λ k. simp total-append (omega (arith, simp total-append at (f.parts k)));
-          makes-up = omega (arith, f.makes-up);
-          born-is = simp total-append (omega (arith, simp total-append at f.born-is, ours p hp));
+          parts = λ k. simp total_append (omega (arith, simp total_append at (f.parts k)));
+          makes_up = omega (arith, f.makes_up);
+          born_is = simp total_append (omega (arith, simp total_append at f.born_is, ours p hp));
           longer = simp length-append (omega (arith, simp length-append at f.longer));
           keeps = λ P c x.
               let y = all_split b (p ∷ a) x in
@@ -86,15 +79,15 @@ module _ (s : ℕ) where
         };
         one_more = l.one_more;
         counted = omega (arith, l.counted);
-        left_over = simp total-append (omega (arith, simp total-append at l.left_over, ours p hp));
+        left_over = simp total_append (omega (arith, simp total_append at l.left_over, ours p hp));
       }
-  law-from more want b p a hp some false e l =
+  law_from more want b p a hp some false e l =
       let h = leb-false p.weight want e in
       record {
         fair = record {
-          parts = λ k. simp total-append (omega (arith, in_two k p (p.weight - want) want (omega arith)));
-          makes-up = omega arith;
-          born-is = simp total-append (omega (arith, ours p hp));
+          parts = λ k. simp total_append (omega (arith, in_two k p (p.weight - want) want (omega arith)));
+          makes_up = omega arith;
+          born_is = simp total_append (omega (arith, ours p hp));
           longer = simp length-append (omega arith);
           keeps = λ P c x.
               let y = all_split b (p ∷ a) x in
@@ -102,27 +95,27 @@ module _ (s : ℕ) where
         };
         one_more = omega arith;
         counted = omega arith;
-        left_over = simp total-append (omega (arith, ours p hp));
+        left_over = simp total_append (omega (arith, ours p hp));
       }
 
-  law-found : (n : ℕ) (more : ℕ → List Piece → Taken) → ((k : ℕ) (qs : List Piece) → length qs ≤ n → Law s k qs (more k qs))
-      → (want : ℕ) (ps : List Piece) → length ps ≤ suc n → 1 ≤ want → (f : Found) → Good s ps f → Law s want ps (takeFound more want ps f)
-  law-found n more l want ps c some nothing g = law-stop want ps (omega arith)
-  law-found n more l want ps c some (at b p a) g =
-      rw g.0 (law-from more want b p a g.1 some (leb p.weight want) refl (l _ _ (simp length-append (omega (arith, simp length-append at (rw g.0 at c))))))
+  law_found : (n : ℕ) (more : ℕ → List Piece → Taken) → ((k : ℕ) (qs : List Piece) → length qs ≤ n → Law s k qs (more k qs))
+      → (want : ℕ) (ps : List Piece) → length ps ≤ suc n → 1 ≤ want → (f : Found) → Good s ps f → Law s want ps (take_found more want ps f)
+  law_found n more l want ps c some nothing g = law_stop want ps (omega arith)
+  law_found n more l want ps c some (at b p a) g =
+      rw g.0 (law_from more want b p a g.1 some (leb p.weight want) refl (l _ _ (simp length-append (omega (arith, simp length-append at (rw g.0 at c))))))
 
   pub law : (pick : List Piece → Found) → ((ps : List Piece) → Good s ps (pick ps))
-      → (n want : ℕ) (ps : List Piece) → length ps ≤ n → Law s want ps (takeUpTo pick n want ps)
-  unfolding takeUpTo
-  law pick good zero want [] c = law-stop want [] (omega arith)
+      → (n want : ℕ) (ps : List Piece) → length ps ≤ n → Law s want ps (take_up_to pick n want ps)
+  unfolding take_up_to
+  law pick good zero want [] c = law_stop want [] (omega arith)
   law pick good zero want (p ∷ ps) c = absurd (omega arith)
   law pick good (suc n) want ps c = go (eqb want 0) refl (law pick good n)
     where
-      go : (t : Bool) → eqb want 0 ≡ t → ((k : ℕ) (qs : List Piece) → length qs ≤ n → Law s k qs (takeUpTo pick n k qs)) → Law s want ps (takeNext pick (takeUpTo pick n) want ps t)
-      go true e l = let z : want ≡ 0 = eqb-true _ _ e in law-stop want ps (omega arith)
-      go false e l = let z : want ≢ 0 = eqb-false _ _ e in law-found n (takeUpTo pick n) l want ps c (omega arith) (pick ps) (good ps)
+      go : (t : Bool) → eqb want 0 ≡ t → ((k : ℕ) (qs : List Piece) → length qs ≤ n → Law s k qs (take_up_to pick n k qs)) → Law s want ps (take_next pick (take_up_to pick n) want ps t)
+      go true e l = let z : want ≡ 0 = eqb-true _ _ e in law_stop want ps (omega arith)
+      go false e l = let z : want ≢ 0 = eqb-false _ _ e in law_found n (take_up_to pick n) l want ps c (omega arith) (pick ps) (good ps)
 
 -- What a transfer takes, under any rule.
-pub taken-law : (rule : ℕ) (x : Move) (ps : List Piece) → Law x.source x.weight ps (taken rule x ps)
+pub taken_law : (rule : ℕ) (x : Move) (ps : List Piece) → Law x.source x.weight ps (taken rule x ps)
 unfolding taken
-taken-law rule x ps = law x.source _ (select_good (wins rule) x.source) (length ps) x.weight ps (omega arith)
+taken_law rule x ps = law x.source _ (select_good (wins rule) x.source) (length ps) x.weight ps (omega arith)

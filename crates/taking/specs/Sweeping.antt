@@ -5,9 +5,9 @@ use Rattle.table.specs.declared.Piece.{Piece}
 use Rattle.taking.specs.Taking.{Taken}
 
 -- the pieces of a holder, in the order they lie
-unfoldable pub heldBy : ℕ → List Piece → List Piece
-heldBy s [] = []
-heldBy s (p ∷ ps) = cond (eqb p.holder s) (p ∷ heldBy s ps) (heldBy s ps)
+unfoldable pub held_by : ℕ → List Piece → List Piece
+held_by s [] = []
+held_by s (p ∷ ps) = cond (eqb p.holder s) (p ∷ held_by s ps) (held_by s ps)
 
 -- the pieces of all others, in their order
 unfoldable pub elsewhere : ℕ → List Piece → List Piece
@@ -16,4 +16,4 @@ elsewhere s (p ∷ ps) = cond (eqb p.holder s) (elsewhere s ps) (p ∷ elsewhere
 
 -- what is taken where a holder is swept: every piece goes whole, and nothing is split or born
 abbrev pub swept : ℕ → List Piece → Taken
-swept s ps = record { rest = elsewhere s ps; given = heldBy s ps; whole = length (heldBy s ps); split = 0; born = 0 }
+swept s ps = record { rest = elsewhere s ps; given = held_by s ps; whole = length (held_by s ps); split = 0; born = 0 }

@@ -4,7 +4,7 @@
 -- Definitions only. Assumes nothing.
 use Rattle.std.specs.Prelude.{Bool, true, false, List, [], ◌∷◌, ◌++◌, map, ℕ, zero, suc, ◌-◌, leb, eqb, length}
 use Rattle.table.specs.declared.Piece.{Piece}
-use Rattle.table.specs.Pieces.{ofWeight, handTo, ifAny}
+use Rattle.table.specs.Pieces.{of_weight, hand_to, if_any}
 use Rattle.taking.specs.declared.Move.{Move}
 use Rattle.taking.specs.Selection.{Found, nothing, at, wins, select}
 
@@ -22,33 +22,33 @@ abbrev pub stop : ℕ → List Piece → Taken
 stop want ps = record { rest = ps; given = []; whole = 0; split = 0; born = want }
 
 -- one piece more is given, whole
-abbrev pub oneWhole : Piece → Taken → Taken
-oneWhole p r = record { rest = r.rest; given = p ∷ r.given; whole = suc r.whole; split = r.split; born = r.born }
+abbrev pub one_whole : Piece → Taken → Taken
+one_whole p r = record { rest = r.rest; given = p ∷ r.given; whole = suc r.whole; split = r.split; born = r.born }
 
 -- The piece p is picked from between b and a. "No heavier than the rest wanted": it leaves its place, and more may follow.
 -- "A heavier one stays in its place, reduced", and gives the weight still wanted.
-abbrev pub takeFrom : (ℕ → List Piece → Taken) → ℕ → List Piece → Piece → List Piece → Bool → Taken
-takeFrom more want b p a true = oneWhole p (more (want - p.weight) (b ++ a))
-takeFrom more want b p a false =
-    record { rest = b ++ (ofWeight (p.weight - want) p ∷ a); given = ofWeight want p ∷ []; whole = 0; split = 1; born = 0 }
+abbrev pub take_from : (ℕ → List Piece → Taken) → ℕ → List Piece → Piece → List Piece → Bool → Taken
+take_from more want b p a true = one_whole p (more (want - p.weight) (b ++ a))
+take_from more want b p a false =
+    record { rest = b ++ (of_weight (p.weight - want) p ∷ a); given = of_weight want p ∷ []; whole = 0; split = 1; born = 0 }
 
-abbrev pub takeFound : (ℕ → List Piece → Taken) → ℕ → List Piece → Found → Taken
-takeFound more want ps nothing = stop want ps
-takeFound more want ps (at b p a) = takeFrom more want b p a (leb p.weight want)
+abbrev pub take_found : (ℕ → List Piece → Taken) → ℕ → List Piece → Found → Taken
+take_found more want ps nothing = stop want ps
+take_found more want ps (at b p a) = take_from more want b p a (leb p.weight want)
 
 -- "until q is reached or none is left": is it reached?
-abbrev pub takeNext : (List Piece → Found) → (ℕ → List Piece → Taken) → ℕ → List Piece → Bool → Taken
-takeNext pick more want ps true = stop want ps
-takeNext pick more want ps false = takeFound more want ps (pick ps)
+abbrev pub take_next : (List Piece → Found) → (ℕ → List Piece → Taken) → ℕ → List Piece → Bool → Taken
+take_next pick more want ps true = stop want ps
+take_next pick more want ps false = take_found more want ps (pick ps)
 
 -- at most n pieces are moved whole
-unfoldable pub takeUpTo : (List Piece → Found) → ℕ → ℕ → List Piece → Taken
-takeUpTo pick zero want ps = stop want ps
-takeUpTo pick (suc n) want ps = takeNext pick (takeUpTo pick n) want ps (eqb want 0)
+unfoldable pub take_up_to : (List Piece → Found) → ℕ → ℕ → List Piece → Taken
+take_up_to pick zero want ps = stop want ps
+take_up_to pick (suc n) want ps = take_next pick (take_up_to pick n) want ps (eqb want 0)
 
 -- What a transfer takes under a rule.
 unfoldable pub taken : ℕ → Move → List Piece → Taken
-taken rule x ps = takeUpTo (select (wins rule) x.source) (length ps) x.weight ps
+taken rule x ps = take_up_to (select (wins rule) x.source) (length ps) x.weight ps
 
 -- "If s runs out, the missing weight is born: a piece (d, s, t, missing) joins the end", with the birth minute of the move in place of t.
 abbrev pub newborn : Move → ℕ → Piece
@@ -56,4 +56,4 @@ newborn x w = record { holder = x.destination; origin = x.source; birth = x.birt
 
 -- the pieces after what was taken is handed over
 abbrev pub handed : Move → Taken → List Piece
-handed x r = r.rest ++ (map (handTo x.destination) r.given ++ ifAny (newborn x r.born))
+handed x r = r.rest ++ (map (hand_to x.destination) r.given ++ if_any (newborn x r.born))

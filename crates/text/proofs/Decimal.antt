@@ -1,23 +1,19 @@
 -- DECIMAL IS THE NUMBER: read as digits it gives the number back, and it begins with no zero unless the number is 0. Assumes nothing.
-use Prim.Native.Nat.{ℕ, zero, suc, ◌+◌, ◌-◌, ◌*◌, ◌/◌, ◌^◌, ◌<◌, ◌≤◌}
+use Rattle.std.proofs.Common.{ℕ, zero, suc, ◌+◌, ◌-◌, ◌*◌, ◌/◌, ◌^◌, ◌<◌, ◌≤◌, arith, ◌≡◌, refl, ◌∙◌, List, [], ◌∷◌, ◌++◌, append_assoc, get_or}
 use native.Mathlib.Nat.{pow-succ'}
-use native.Mathlib.Omega.{arith}
-use mathlib.Core.Path.{◌≡◌, refl, ◌∙◌}
-use mathlib.Core.List.{List, [], ◌∷◌, ◌++◌, append_assoc}
-use lib.ListN.{get_or}
 use Rattle.refusal.specs.Numbers.{TOP}
-use Rattle.text.specs.Digits.{lastDigit, digits, decimal}
-use Rattle.text.proofs.TextLaws.{no-digits, more-digits}
+use Rattle.text.specs.Digits.{last_digit, digits, decimal}
+use Rattle.text.proofs.TextLaws.{no_digits, more_digits}
 
 -- the number that digits say, behind those read before
-abbrev valueOn : ℕ → List ℕ → ℕ
-valueOn n [] = n
-valueOn n (d ∷ ds) = valueOn (10 * n + (d - 48)) ds
+abbrev value_on : ℕ → List ℕ → ℕ
+value_on n [] = n
+value_on n (d ∷ ds) = value_on (10 * n + (d - 48)) ds
 
 abbrev pub value : List ℕ → ℕ
-value ds = valueOn 0 ds
+value ds = value_on 0 ds
 
-one_more : (n d : ℕ) (ds : List ℕ) → valueOn n (ds ++ (d ∷ [])) ≡ 10 * valueOn n ds + (d - 48)
+one_more : (n d : ℕ) (ds : List ℕ) → value_on n (ds ++ (d ∷ [])) ≡ 10 * value_on n ds + (d - 48)
 one_more n d [] = refl
 one_more n d (x ∷ ds) = one_more (10 * n + (x - 48)) d ds
 
@@ -28,26 +24,26 @@ digits_value : (k n : ℕ) → n < 10 ^ k → value (digits k n) ≡ n
 unfolding digits
 digits_value zero n h = omega arith
 digits_value (suc k) zero h = refl
-digits_value (suc k) (suc n) h = one_more 0 (lastDigit (suc n)) (digits k (suc n / 10)) ∙ omega (arith, digits_value k (suc n / 10) (tenth k (suc n) h))
+digits_value (suc k) (suc n) h = one_more 0 (last_digit (suc n)) (digits k (suc n / 10)) ∙ omega (arith, digits_value k (suc n / 10) (tenth k (suc n) h))
 
-pub decimal-value : (n : ℕ) → n ≤ TOP → value (decimal n) ≡ n
+pub decimal_value : (n : ℕ) → n ≤ TOP → value (decimal n) ≡ n
 unfolding decimal
-decimal-value n h = one_more 0 (lastDigit n) (digits 9 (n / 10)) ∙ omega (arith, digits_value 9 (n / 10) (omega arith))
+decimal_value n h = one_more 0 (last_digit n) (digits 9 (n / 10)) ∙ omega (arith, digits_value 9 (n / 10) (omega arith))
 
 -- "0" is 48
 abbrev Lead : List ℕ → Type 0
 Lead ds = 48 < get_or ds 0 0
 
 -- led by the last digit where it is the only one
-led : (k n m : ℕ) (rest : List ℕ) → 0 < n → n / 10 ≡ m → (0 < n / 10 → Lead (digits k (n / 10) ++ (lastDigit n ∷ rest))) → Lead (digits k (n / 10) ++ (lastDigit n ∷ rest))
-led k n zero rest some e more = rw (e, no-digits) (omega arith)
+led : (k n m : ℕ) (rest : List ℕ) → 0 < n → n / 10 ≡ m → (0 < n / 10 → Lead (digits k (n / 10) ++ (last_digit n ∷ rest))) → Lead (digits k (n / 10) ++ (last_digit n ∷ rest))
+led k n zero rest some e more = rw (e, no_digits) (omega arith)
 led k n (suc m) rest some e more = more (omega arith)
 
-digits-lead : (k n : ℕ) (rest : List ℕ) → 0 < n → n < 10 ^ k → Lead (digits k n ++ rest)
-digits-lead zero n rest some h = absurd (omega arith)
-digits-lead (suc k) n rest some h =
-    rw (more-digits k n some, append_assoc) (led k n (n / 10) rest some refl (λ more. digits-lead k (n / 10) (lastDigit n ∷ rest) more (tenth k n h)))
+digits_lead : (k n : ℕ) (rest : List ℕ) → 0 < n → n < 10 ^ k → Lead (digits k n ++ rest)
+digits_lead zero n rest some h = absurd (omega arith)
+digits_lead (suc k) n rest some h =
+    rw (more_digits k n some, append_assoc) (led k n (n / 10) rest some refl (λ more. digits_lead k (n / 10) (last_digit n ∷ rest) more (tenth k n h)))
 
-pub decimal-lead : (n : ℕ) → 0 < n → n ≤ TOP → 48 < get_or (decimal n) 0 0
+pub decimal_lead : (n : ℕ) → 0 < n → n ≤ TOP → 48 < get_or (decimal n) 0 0
 unfolding decimal
-decimal-lead n some h = led 9 n (n / 10) [] some refl (λ more. digits-lead 9 (n / 10) (lastDigit n ∷ []) more (omega arith))
+decimal_lead n some h = led 9 n (n / 10) [] some refl (λ more. digits_lead 9 (n / 10) (last_digit n ∷ []) more (omega arith))

@@ -3,18 +3,18 @@ use Rattle.std.specs.Prelude.{List, [], ◌∷◌, ◌++◌, ℕ, zero, suc, ◌
 use Rattle.refusal.specs.Numbers.{ifZero}
 
 -- of a number of 32 bits
-abbrev pub mostDigits : ℕ
-mostDigits = 10
+abbrev pub most_digits : ℕ
+most_digits = 10
 
 -- the byte of the last digit
-abbrev pub lastDigit : ℕ → ℕ
-lastDigit n = 48 + n % 10
+abbrev pub last_digit : ℕ → ℕ
+last_digit n = 48 + n % 10
 
 -- The digits of n, at most so many, the high one first; none of 0.
 unfoldable pub digits : ℕ → ℕ → List ℕ
 digits zero n = []
-digits (suc k) n = ifZero n [] (digits k (n / 10) ++ (lastDigit n ∷ []))
+digits (suc k) n = ifZero n [] (digits k (n / 10) ++ (last_digit n ∷ []))
 
 -- The last digit always, and before it those of the tenth part. Ten digits hold every number of 32 bits.
 unfoldable pub decimal : ℕ → List ℕ
-decimal n = digits 9 (n / 10) ++ (lastDigit n ∷ [])
+decimal n = digits 9 (n / 10) ++ (last_digit n ∷ [])

@@ -3,29 +3,29 @@ use Rattle.std.specs.Prelude.{Bool, cond, ◌&&◌, List, [], ◌∷◌, ℕ, �
 use Rattle.refusal.specs.Numbers.{TOP}
 
 -- the byte of 0
-abbrev pub zeroDigit : ℕ
-zeroDigit = 0x30
+abbrev pub zero_digit : ℕ
+zero_digit = 0x30
 
 -- the byte of 9
-abbrev pub nineDigit : ℕ
-nineDigit = 0x39
+abbrev pub nine_digit : ℕ
+nine_digit = 0x39
 
 abbrev pub digit : ℕ → Bool
-digit b = leb zeroDigit b && leb b nineDigit
+digit b = leb zero_digit b && leb b nine_digit
 
 -- whether a digit stands at an index; behind the end there is none
-abbrev pub digitAt : List ℕ → ℕ → Bool
-digitAt text i = digit (get_or text i 0)
+abbrev pub digit_at : List ℕ → ℕ → Bool
+digit_at text i = digit (get_or text i 0)
 
 -- n with a digit behind it; what is too large for 32 bits is TOP
-abbrev pub withDigit : ℕ → ℕ → ℕ
-withDigit n b = min (10 * n + (b - zeroDigit)) TOP
+abbrev pub with_digit : ℕ → ℕ → ℕ
+with_digit n b = min (10 * n + (b - zero_digit)) TOP
 
 -- The numbers of a text, where n is what the digits before it make: a number ends where its digits do.
-unfoldable pub numbersFrom : ℕ → List ℕ → List ℕ
-numbersFrom n [] = []
-numbersFrom n (b ∷ bs) =
-    cond (digit b) (cond (digitAt bs 0) (numbersFrom (withDigit n b) bs) (withDigit n b ∷ numbersFrom 0 bs)) (numbersFrom n bs)
+unfoldable pub numbers_from : ℕ → List ℕ → List ℕ
+numbers_from n [] = []
+numbers_from n (b ∷ bs) =
+    cond (digit b) (cond (digit_at bs 0) (numbers_from (with_digit n b) bs) (with_digit n b ∷ numbers_from 0 bs)) (numbers_from n bs)
 
-abbrev pub numbersIn : List ℕ → List ℕ
-numbersIn text = numbersFrom 0 text
+abbrev pub numbers_in : List ℕ → List ℕ
+numbers_in text = numbers_from 0 text

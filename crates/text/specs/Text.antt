@@ -9,5 +9,5 @@ word text n = text ++ decimal n
 
 -- A text put into bytes at an index: the index behind it, and the bytes after.
 pub record Put (before : List ℕ) (at : ℕ) (text : List ℕ) (next : ℕ) (after : List ℕ) : Type 0 where
-  pub next-is : next ≡ at + length text
+  pub next_is : next ≡ at + length text
   pub after_is : after ≡ sets before at text

@@ -2,7 +2,7 @@
 #![tactic(auto)]
 
 ghost use Rattle.std.specs.Prelude.{◌≡◌, ◌+◌, ◌<◌, ◌≤◌, length, drop};
-ghost use Rattle.text.specs.Digits.{mostDigits, decimal, lastDigit};
+ghost use Rattle.text.specs.Digits.{most_digits, decimal, last_digit};
 ghost use Rattle.text.specs.Text.{Put, word};
 
 pub mod parsing; // parsing.rt: the numbers of a text
@@ -20,15 +20,15 @@ pub fn put_text(out: &mut [u8], at: usize, text: &[u8]) -> usize
 
 // The byte of the last digit of n.
 fn last_digit(n: u32) -> u8
-    ensures { result ≡ lastDigit n }
+    ensures { result ≡ last_digit n }
 {
     48 + (n % 10) as u8
 }
 
 // Puts the digits of n at the end of ten bytes, and yields where they start.
 fn spell(n: u32, text: &mut [u8]) -> usize
-    requires { length text.old ≡ mostDigits }
-    ensures { (result < mostDigits) × (length text.new ≡ mostDigits) × (drop result text.new ≡ decimal n) }
+    requires { length text.old ≡ most_digits }
+    ensures { (result < most_digits) × (length text.new ≡ most_digits) × (drop result text.new ≡ decimal n) }
 {
     let mut i = DIGITS - 1;
     text[i] = last_digit(n);
@@ -43,8 +43,8 @@ fn spell(n: u32, text: &mut [u8]) -> usize
 
 // Puts a number in decimal.
 pub fn put_number(out: &mut [u8], at: usize, n: u32) -> usize
-    requires { at + mostDigits ≤ length out.old }
-    ensures { Put out.old at (decimal n) result out.new × (result ≤ at + mostDigits) }
+    requires { at + most_digits ≤ length out.old }
+    ensures { Put out.old at (decimal n) result out.new × (result ≤ at + most_digits) }
 {
     let mut digits = [0u8; DIGITS];
     let start = spell(n, &mut digits);
@@ -53,8 +53,8 @@ pub fn put_number(out: &mut [u8], at: usize, n: u32) -> usize
 
 // Puts a word and a number behind it.
 pub fn put_word(out: &mut [u8], at: usize, text: &[u8], n: u32) -> usize
-    requires { at + length text.now + mostDigits ≤ length out.old }
-    ensures { Put out.old at (word text.now n) result out.new × (result ≤ at + length text.now + mostDigits) }
+    requires { at + length text.now + most_digits ≤ length out.old }
+    ensures { Put out.old at (word text.now n) result out.new × (result ≤ at + length text.now + most_digits) }
 {
     let behind = put_text(out, at, text);
     put_number(out, behind, n)

@@ -1,13 +1,13 @@
 // Decimal numbers read from a text.
 ghost use Rattle.std.specs.Prelude.{◌≡◌, ◌≤◌, min, length, set};
 ghost use Rattle.std.proofs.lemmas.List.Edits.{sets};
-ghost use Rattle.text.specs.Numbers.{zeroDigit, digitAt, withDigit, numbersIn};
+ghost use Rattle.text.specs.Numbers.{zero_digit, digit_at, with_digit, numbers_in};
 
 use refusal::TOP;
 
 // Whether a digit stands at an index.
 fn digit_at(text: &[u8], i: usize) -> bool
-    ensures { result ≡ digitAt text.now i }
+    ensures { result ≡ digit_at text.now i }
 {
     if text.len() <= i {
         return false;
@@ -20,8 +20,8 @@ fn digit_at(text: &[u8], i: usize) -> bool
 
 // n with a digit behind it.
 fn with_digit(n: u32, byte: u8) -> u32
-    requires { zeroDigit ≤ byte }
-    ensures { result ≡ withDigit n byte }
+    requires { zero_digit ≤ byte }
+    ensures { result ≡ with_digit n byte }
 {
     let more = 10 * (n as u64) + ((byte - b'0') as u64);
     if more < TOP as u64 {
@@ -41,8 +41,8 @@ fn put(out: &mut [u32], at: usize, n: u32)
 
 // Puts the numbers of a text, as many as there is room for, and yields how many that were.
 pub fn read(text: &[u8], out: &mut [u32]) -> usize
-    ensures count { result ≡ min (length (numbersIn text.now)) (length out.old) }
-    ensures numbers { out.new ≡ sets out.old 0 (numbersIn text.now) }
+    ensures count { result ≡ min (length (numbers_in text.now)) (length out.old) }
+    ensures numbers { out.new ≡ sets out.old 0 (numbers_in text.now) }
 {
     let room = out.len();
     let mut at: usize = 0;

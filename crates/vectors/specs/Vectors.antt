@@ -4,12 +4,12 @@
 use Rattle.std.specs.Prelude.{cond, List, [], ◌∷◌, ◌++◌, ◌≡◌, ℕ, ◌+◌, ◌*◌, ◌≤◌, eqb, length, get_or, take, drop, replicate, decimal}
 use Rattle.refusal.specs.Numbers.{ifZero}
 use Rattle.book.specs.Head.{opening}
-use Rattle.journal.specs.Carried.{callSize, countCalls, carried, carryNumber}
-use Rattle.fields.specs.Layout.{sheetSize}
-use Rattle.fields.specs.Movements.{givenSize}
-use Rattle.writing.specs.Writing.{countGiven, written}
-use Rattle.listing.specs.Listing.{sheetListing}
-use Rattle.text.specs.Numbers.{numbersIn}
+use Rattle.journal.specs.Carried.{call_size, count_calls, carried, carry_number}
+use Rattle.fields.specs.Layout.{sheet_size}
+use Rattle.fields.specs.Movements.{given_size}
+use Rattle.writing.specs.Writing.{count_given, written}
+use Rattle.listing.specs.Listing.{sheet_listing}
+use Rattle.text.specs.Numbers.{numbers_in}
 
 abbrev pub space : ℕ
 space = 0x20
@@ -25,109 +25,109 @@ abbrev pub names : List ℕ
 names = 65 ∷ 0 ∷ 0 ∷ 0 ∷ 0 ∷ 0 ∷ 0 ∷ 0 ∷ 66 ∷ 0 ∷ 0 ∷ 0 ∷ 0 ∷ 0 ∷ 0 ∷ 0 ∷ 67 ∷ 0 ∷ 0 ∷ 0 ∷ 0 ∷ 0 ∷ 0 ∷ 0 ∷ []
 
 -- A vector has no more movements than this.
-abbrev pub mostShown : ℕ
-mostShown = 16
+abbrev pub most_shown : ℕ
+most_shown = 16
 
-abbrev pub sheetRoom : ℕ
-sheetRoom = sheetSize vessels mostShown
+abbrev pub sheet_room : ℕ
+sheet_room = sheet_size vessels most_shown
 
-abbrev pub numbersRoom : ℕ
-numbersRoom = givenSize * mostShown
+abbrev pub numbers_room : ℕ
+numbers_room = given_size * most_shown
 
 -- "Places = table length divided by 4"
 abbrev pub places : ℕ
 places = 6
 
-abbrev pub tableRoom : ℕ
-tableRoom = 4 * places
+abbrev pub table_room : ℕ
+table_room = 4 * places
 
 -- the numbers of a vector, as many as there is room for: the rule, then those of its movements
-abbrev pub vectorNumbers : List ℕ → List ℕ
-vectorNumbers text = take (1 + numbersRoom) (numbersIn text)
+abbrev pub vector_numbers : List ℕ → List ℕ
+vector_numbers text = take (1 + numbers_room) (numbers_in text)
 
-abbrev pub vectorRule : List ℕ → ℕ
-vectorRule text = get_or (vectorNumbers text) 0 0
+abbrev pub vector_rule : List ℕ → ℕ
+vector_rule text = get_or (vector_numbers text) 0 0
 
-abbrev pub vectorMovements : List ℕ → List ℕ
-vectorMovements text = drop 1 (vectorNumbers text)
+abbrev pub vector_movements : List ℕ → List ℕ
+vector_movements text = drop 1 (vector_numbers text)
 
 -- the bytes of a vector's sheet
-abbrev pub vectorSize : List ℕ → ℕ
-vectorSize text = sheetSize vessels (countGiven (vectorMovements text))
+abbrev pub vector_size : List ℕ → ℕ
+vector_size text = sheet_size vessels (count_given (vector_movements text))
 
 -- bytes at the start of which a vector's sheet was written
-abbrev pub vectorOn : List ℕ → List ℕ → List ℕ
-vectorOn text bytes = written (vectorRule text) vessels names (vectorMovements text) bytes
+abbrev pub vector_on : List ℕ → List ℕ → List ℕ
+vector_on text bytes = written (vector_rule text) vessels names (vector_movements text) bytes
 
 -- A vector's sheet was written: its size, for which there is room, and the bytes after.
 pub record VectorWritten (text before : List ℕ) (size : ℕ) (after : List ℕ) : Type 0 where
-  pub size_is : size ≡ vectorSize text
-  pub room : size ≤ sheetRoom
-  pub after_is : after ≡ vectorOn text before
+  pub size_is : size ≡ vector_size text
+  pub room : size ≤ sheet_room
+  pub after_is : after ≡ vector_on text before
 
-abbrev pub vectorSheet : List ℕ → List ℕ
-vectorSheet text = take (vectorSize text) (vectorOn text (replicate sheetRoom 0))
+abbrev pub vector_sheet : List ℕ → List ℕ
+vector_sheet text = take (vector_size text) (vector_on text (replicate sheet_room 0))
 
-abbrev pub vectorListing : List ℕ → List ℕ
-vectorListing text = sheetListing (vectorSheet text) (replicate tableRoom 0)
+abbrev pub vector_listing : List ℕ → List ℕ
+vector_listing text = sheet_listing (vector_sheet text) (replicate table_room 0)
 
 -- A list of calls has no more answers than this, and the whole report a weight for each pair of vessels.
-abbrev pub answersRoom : ℕ
-answersRoom = 13
+abbrev pub answers_room : ℕ
+answers_room = 13
 
-abbrev pub reportRoom : ℕ
-reportRoom = vessels * vessels
+abbrev pub report_room : ℕ
+report_room = vessels * vessels
 
 -- shows where nothing is written
 abbrev pub unwritten : ℕ
 unwritten = 99
 
-abbrev pub callsRoom : ℕ
-callsRoom = callSize * answersRoom
+abbrev pub calls_room : ℕ
+calls_room = call_size * answers_room
 
 -- the numbers of a list of calls, as many as there is room for: the rule, then those of its calls
-abbrev pub callNumbers : List ℕ → List ℕ
-callNumbers text = take (1 + callsRoom) (numbersIn text)
+abbrev pub call_numbers : List ℕ → List ℕ
+call_numbers text = take (1 + calls_room) (numbers_in text)
 
 -- numbers on a line, each with a space behind it
-unfoldable pub numbersText : List ℕ → List ℕ
-numbersText [] = []
-numbersText (n ∷ ns) = (decimal n ++ (space ∷ [])) ++ numbersText ns
+unfoldable pub numbers_text : List ℕ → List ℕ
+numbers_text [] = []
+numbers_text (n ∷ ns) = (decimal n ++ (space ∷ [])) ++ numbers_text ns
 
-abbrev pub numbersLine : List ℕ → List ℕ
-numbersLine ns = numbersText ns ++ (newline ∷ [])
+abbrev pub numbers_line : List ℕ → List ℕ
+numbers_line ns = numbers_text ns ++ (newline ∷ [])
 
 -- What is shown of calls that are carried out under a rule: the number of each, and the room after. A list that is refused leaves both as
 -- they were.
-abbrev pub carriedListing : ℕ → List ℕ → List ℕ
-carriedListing rule calls =
-    let answers = replicate answersRoom unwritten in
-    let room = replicate reportRoom unwritten in
-    let count = countCalls calls answers in
-    let k = carried count calls (opening rule vessels).head (replicate tableRoom 0) room in
-    ifZero (carryNumber rule vessels calls answers)
-    (numbersLine (k.numbers ++ drop count answers) ++ numbersLine k.room)
-    (numbersLine answers ++ numbersLine room)
+abbrev pub carried_listing : ℕ → List ℕ → List ℕ
+carried_listing rule calls =
+    let answers = replicate answers_room unwritten in
+    let room = replicate report_room unwritten in
+    let count = count_calls calls answers in
+    let k = carried count calls (opening rule vessels).head (replicate table_room 0) room in
+    ifZero (carry_number rule vessels calls answers)
+    (numbers_line (k.numbers ++ drop count answers) ++ numbers_line k.room)
+    (numbers_line answers ++ numbers_line room)
 
-abbrev pub callsListing : List ℕ → List ℕ
-callsListing text = carriedListing (get_or (callNumbers text) 0 0) (drop 1 (callNumbers text))
+abbrev pub calls_listing : List ℕ → List ℕ
+calls_listing text = carried_listing (get_or (call_numbers text) 0 0) (drop 1 (call_numbers text))
 
 -- The first byte of a line tells what it is: `#` a heading, `c` a list of calls.
 abbrev pub heading : ℕ
 heading = 0x23
 
-abbrev pub callsMark : ℕ
-callsMark = 0x63
+abbrev pub calls_mark : ℕ
+calls_mark = 0x63
 
 -- a line as it is
-abbrev pub headingLine : List ℕ → List ℕ
-headingLine line = line ++ (newline ∷ [])
+abbrev pub heading_line : List ℕ → List ℕ
+heading_line line = line ++ (newline ∷ [])
 
 -- what is shown of a line; an empty one is a heading
 unfoldable pub shown : List ℕ → List ℕ
 shown line =
     let first = get_or line 0 heading in
-    cond (eqb first heading) (headingLine line) (cond (eqb first callsMark) (callsListing line) (vectorListing line))
+    cond (eqb first heading) (heading_line line) (cond (eqb first calls_mark) (calls_listing line) (vector_listing line))
 
 -- the bytes of a text before its first newline
 unfoldable pub line_of : List ℕ → List ℕ

@@ -5,7 +5,7 @@
 
 ghost use Rattle.std.specs.Prelude.{◌≡◌, ◌+◌, ◌≤◌, min, length, get_or, drop, OnOk};
 ghost use Rattle.std.specs.Io.KnownBytes.{Appends};
-ghost use Rattle.vectors.specs.Vectors.{heading, line_of, headingLine, VectorWritten, vectorListing, callsListing, numbersLine, shown};
+ghost use Rattle.vectors.specs.Vectors.{heading, line_of, heading_line, VectorWritten, vector_listing, calls_listing, numbers_line, shown};
 
 use fields::layout::{ENTRY_SIZE, GIVEN_SIZE, HEADER_SIZE, NAME_SIZE};
 use journal::CALL_SIZE;
@@ -56,7 +56,7 @@ fn write_vector(text: &[u8], sheet: &mut [u8]) -> usize
 
 // Writes the listing of movements between three vessels.
 fn show<W: Write>(text: &[u8], out: &mut W) -> io::Result<()>
-    ensures { OnOk result (Appends (W.contents out.old) (W.contents out.new) (vectorListing text.now)) }
+    ensures { OnOk result (Appends (W.contents out.old) (W.contents out.new) (vector_listing text.now)) }
 {
     let mut sheet = [0u8; SHEET];
     let mut table = [0u32; TABLE];
@@ -68,7 +68,7 @@ fn show<W: Write>(text: &[u8], out: &mut W) -> io::Result<()>
 
 // Writes numbers on a line, each with a space behind it.
 fn print_line<W: Write>(numbers: &[u32], out: &mut W) -> io::Result<()>
-    ensures { OnOk result (Appends (W.contents out.old) (W.contents out.new) (numbersLine numbers.now)) }
+    ensures { OnOk result (Appends (W.contents out.old) (W.contents out.new) (numbers_line numbers.now)) }
 {
     for n in numbers {
         write!(out, "{n} ")?;
@@ -79,7 +79,7 @@ fn print_line<W: Write>(numbers: &[u32], out: &mut W) -> io::Result<()>
 // Carries out a list of calls on a fresh book of three vessels, and writes the number of each and the room after. Demand 3 is in the
 // contract of `carry_out`.
 fn show_calls<W: Write>(text: &[u8], out: &mut W) -> io::Result<()>
-    ensures { OnOk result (Appends (W.contents out.old) (W.contents out.new) (callsListing text.now)) }
+    ensures { OnOk result (Appends (W.contents out.old) (W.contents out.new) (calls_listing text.now)) }
 {
     let mut calls = [0u32; 1 + CALL_SIZE * CALLS];
     let mut table = [0u32; TABLE];
@@ -111,7 +111,7 @@ fn kind(line: &[u8]) -> u8
 
 // Writes a line as it is.
 fn print_heading<W: Write>(line: &[u8], out: &mut W) -> io::Result<()>
-    ensures { OnOk result (Appends (W.contents out.old) (W.contents out.new) (headingLine line.now)) }
+    ensures { OnOk result (Appends (W.contents out.old) (W.contents out.new) (heading_line line.now)) }
 {
     out.write_all(line)?;
     out.write_all(b"\n")

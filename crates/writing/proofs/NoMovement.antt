@@ -1,41 +1,36 @@
--- A SHEET WRITTEN FROM NO NUMBERS. `no-movement-number`: the writer checks 2, 3, 16 of the names, 17 and the room. `no-movement-written`: the sheet is the
+-- A SHEET WRITTEN FROM NO NUMBERS. `no_movement_number`: the writer checks 2, 3, 16 of the names, 17 and the room. `no_movement_written`: the sheet is the
 -- header and the names, 24 + 8V bytes, and bytes behind them remain.
 -- Assumes nothing.
-use Prim.Native.Nat.{ℕ, ◌*◌}
-use native.Mathlib.Omega.{arith}
-use mathlib.Core.Path.{◌≡◌}
-use mathlib.Core.Bool.{not, or-false}
-use mathlib.Core.List.{List, [], ◌∷◌, ◌++◌, append-nil, flat_map}
-use lib.Dec.{eqb, ltb}
-use lib.ListN.{length, drop}
+use Rattle.std.proofs.Common.{ℕ, ◌*◌, arith, ◌≡◌, not, List, [], ◌∷◌, ◌++◌, append-nil, flat_map, eqb, ltb, length, drop}
+use mathlib.Core.Bool.{or-false}
 use Rattle.refusal.specs.Numbers.{◌if◌, first, ifZero}
-use Rattle.book.specs.Head.{openChecks}
+use Rattle.book.specs.Head.{open_checks}
 use Rattle.fields.specs.Bytes.{groups}
-use Rattle.fields.specs.Layout.{nameSize, entriesStart, sheetSize}
-use Rattle.fields.proofs.LayoutLaws.{movements-fit}
-use Rattle.fields.specs.Movements.{entriesChecks}
-use Rattle.names.specs.Names.{namesIn, namesOff}
-use Rattle.writing.specs.Writing.{headerBytes, sheetOf, givenOff, writeNumber, written}
+use Rattle.fields.specs.Layout.{name_size, entries_start, sheet_size}
+use Rattle.fields.proofs.LayoutLaws.{movements_fit}
+use Rattle.fields.specs.Movements.{entries_checks}
+use Rattle.names.specs.Names.{names_in, names_off}
+use Rattle.writing.specs.Writing.{header_bytes, sheet_of, given_off, write_number, written}
 
-no-entries : (vessels : ℕ) → sheetSize vessels 0 ≡ entriesStart vessels
-no-entries vessels = omega arith
+no_entries : (vessels : ℕ) → sheet_size vessels 0 ≡ entries_start vessels
+no_entries vessels = omega arith
 
 module _ (rule vessels : ℕ) (names : List ℕ) where
-  pub no-movement-number : (room : ℕ)
-      → writeNumber rule vessels names [] room
-      ≡ first (openChecks rule vessels
-      ++ (16 if not (eqb (length names) (nameSize * vessels)))
-      ∷ (17 if namesOff (namesIn vessels names))
-      ∷ (19 if ltb room (entriesStart vessels))
+  pub no_movement_number : (room : ℕ)
+      → write_number rule vessels names [] room
+      ≡ first (open_checks rule vessels
+      ++ (16 if not (eqb (length names) (name_size * vessels)))
+      ∷ (17 if names_off (names_in vessels names))
+      ∷ (19 if ltb room (entries_start vessels))
       ∷ [])
-  unfolding writeNumber givenOff groups entriesChecks
-  no-movement-number room = rw (or-false, movements-fit 0 (omega arith), no-entries)
+  unfolding write_number given_off groups entries_checks
+  no_movement_number room = rw (or-false, movements_fit 0 (omega arith), no_entries)
 
-  sheet : sheetOf rule vessels names [] ≡ headerBytes rule vessels 0 ++ names
-  unfolding sheetOf groups flat_map
-  sheet = append-nil (headerBytes rule vessels 0 ++ names)
+  sheet : sheet_of rule vessels names [] ≡ header_bytes rule vessels 0 ++ names
+  unfolding sheet_of groups flat_map
+  sheet = append-nil (header_bytes rule vessels 0 ++ names)
 
-  pub no-movement-written : (out : List ℕ)
+  pub no_movement_written : (out : List ℕ)
       → written rule vessels names [] out
-      ≡ ifZero (writeNumber rule vessels names [] (length out)) (headerBytes rule vessels 0 ++ names ++ drop (entriesStart vessels) out) out
-  no-movement-written out = rw (sheet, no-entries)
+      ≡ ifZero (write_number rule vessels names [] (length out)) (header_bytes rule vessels 0 ++ names ++ drop (entries_start vessels) out) out
+  no_movement_written out = rw (sheet, no_entries)

@@ -1,16 +1,13 @@
 -- Writing on a small case: the bytes as document 01 lays them out, and the writer's numbers as one table and one theorem, with one thing wrong in each row.
 -- Assumes nothing.
-use Prim.Native.Nat.{ℕ}
-use mathlib.Core.Path.{◌≡◌, refl}
-use mathlib.Core.List.{List, [], ◌∷◌, map, flat_map}
-use lib.ListN.{set, take, replicate}
-use Rattle.book.specs.Head.{same, allZero}
+use Rattle.std.proofs.Common.{ℕ, ◌≡◌, refl, List, [], ◌∷◌, map, flat_map, set, take, replicate}
+use Rattle.book.specs.Head.{same, all_zero}
 use Rattle.fields.specs.Bytes.{bytes_of, groups, exists}
-use Rattle.fields.specs.Movements.{entriesChecks}
-use Rattle.fields.specs.Layout.{movementsOff}
-use Rattle.names.specs.Names.{letters, wellFormed}
-use Rattle.sheet.proofs.Samples.{bytes, noMovement}
-use Rattle.writing.specs.Writing.{sheetOf, givenOff, writeNumber}
+use Rattle.fields.specs.Movements.{entries_checks}
+use Rattle.fields.specs.Layout.{movements_off}
+use Rattle.names.specs.Names.{letters, well_formed}
+use Rattle.sheet.proofs.Samples.{bytes, no_movement}
+use Rattle.writing.specs.Writing.{sheet_of, given_off, write_number}
 
 -- the names `A`, `B~` and `C` of eight bytes each
 pub names : List ℕ
@@ -24,13 +21,13 @@ names =
 pub numbers : List ℕ
 numbers = 1 ∷ 2 ∷ 1 ∷ 3 ∷ 0 ∷ 2 ∷ 0 ∷ 258 ∷ 5 ∷ 259 ∷ []
 
-pub sample-bytes : sheetOf 2 3 names numbers ≡ bytes
-unfolding names numbers bytes sheetOf bytes_of flat_map groups
-sample-bytes = refl
+pub sample_bytes : sheet_of 2 3 names numbers ≡ bytes
+unfolding names numbers bytes sheet_of bytes_of flat_map groups
+sample_bytes = refl
 
-pub no-movement-bytes : sheetOf 2 3 names [] ≡ noMovement
-unfolding names bytes noMovement sheetOf bytes_of flat_map groups
-no-movement-bytes = refl
+pub no_movement_bytes : sheet_of 2 3 names [] ≡ no_movement
+unfolding names bytes no_movement sheet_of bytes_of flat_map groups
+no_movement_bytes = refl
 
 -- What the writer is given, and the number that it gives.
 pub record Given : Type 0 where
@@ -89,6 +86,6 @@ samples =
     ∷ given 19 2 3 names [] 47
     ∷ []
 
-pub write-samples : map (λ g. writeNumber g.rule g.vessels g.names g.numbers g.room) samples ≡ map (λ g. g.number) samples
-unfolding given samples names numbers writeNumber givenOff movementsOff same groups exists wellFormed letters allZero entriesChecks
-write-samples = refl
+pub write_samples : map (λ g. write_number g.rule g.vessels g.names g.numbers g.room) samples ≡ map (λ g. g.number) samples
+unfolding given samples names numbers write_number given_off movements_off same groups exists well_formed letters all_zero entries_checks
+write_samples = refl

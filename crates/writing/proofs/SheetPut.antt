@@ -1,49 +1,45 @@
 -- The movements, the header and the whole sheet, from parts put one behind the other. Assumes nothing.
-use Prim.Native.Nat.{ℕ, ◌+◌, ◌*◌, ◌<◌, ◌≤◌}
-use native.Mathlib.Omega.{arith}
-use mathlib.Core.Path.{◌≡◌, refl, ◌∙◌}
-use mathlib.Core.List.{List, ◌++◌}
-use lib.ListN.{length, drop, length-append}
+use Rattle.std.proofs.Common.{ℕ, ◌+◌, ◌*◌, ◌<◌, ◌≤◌, arith, ◌≡◌, refl, ◌∙◌, List, ◌++◌, length, drop, length-append}
 use lib.Seq.{sets}
 use Rattle.fields.specs.declared.entries.Entry.{Entry}
-use Rattle.fields.specs.Movements.{givenSize, entrySize, givenIn, entriesGiven, entryBytes, entriesBytes}
-use Rattle.fields.specs.Layout.{mark, headerSize, nameSize, ruleAt, names_at, entriesStart}
-use Rattle.fields.proofs.PutLaws.{length-bytes, put_then, each_turn, each-end}
-use Rattle.writing.specs.Writing.{countGiven, countBytes, layoutBytes, headerBytes, sheetOf}
+use Rattle.fields.specs.Movements.{given_size, entry_size, given_in, entries_given, entry_bytes, entries_bytes}
+use Rattle.fields.specs.Layout.{mark, header_size, name_size, rule_at, names_at, entries_start}
+use Rattle.fields.proofs.PutLaws.{length_bytes, put_then, each_turn, each_end}
+use Rattle.writing.specs.Writing.{count_given, count_bytes, layout_bytes, header_bytes, sheet_of}
 
-pub length-entry : (e : Entry) → length (entryBytes e) ≡ entrySize
-length-entry e = simp (length-append, length-bytes)
+pub length_entry : (e : Entry) → length (entry_bytes e) ≡ entry_size
+length_entry e = simp (length-append, length_bytes)
 
 -- the loop that puts movements
 module _ (out goal numbers : List ℕ) (at i count : ℕ) where
-  pub entries-turn : (l : List ℕ) (e : Entry) → i < count → e ≡ givenIn (drop (givenSize * i) numbers) → l ≡ sets out (at + entrySize * i) (entryBytes e)
-      → sets out (at + entrySize * i) (entriesBytes (drop i (entriesGiven count numbers))) ≡ goal
-      → sets l (at + entrySize * (i + 1)) (entriesBytes (drop (i + 1) (entriesGiven count numbers))) ≡ goal
-  entries-turn l e h is el inv = each_turn entryBytes entrySize givenSize givenIn count numbers out goal at i l e h is (length-entry e) el inv
+  pub entries_turn : (l : List ℕ) (e : Entry) → i < count → e ≡ given_in (drop (given_size * i) numbers) → l ≡ sets out (at + entry_size * i) (entry_bytes e)
+      → sets out (at + entry_size * i) (entries_bytes (drop i (entries_given count numbers))) ≡ goal
+      → sets l (at + entry_size * (i + 1)) (entries_bytes (drop (i + 1) (entries_given count numbers))) ≡ goal
+  entries_turn l e h is el inv = each_turn entry_bytes entry_size given_size given_in count numbers out goal at i l e h is (length_entry e) el inv
 
-  pub entries-end : count ≤ i → sets out (at + entrySize * i) (entriesBytes (drop i (entriesGiven count numbers))) ≡ goal → out ≡ goal
-  entries-end h e = each-end entryBytes entrySize givenSize givenIn count numbers out goal at i h e
+  pub entries_end : count ≤ i → sets out (at + entry_size * i) (entries_bytes (drop i (entries_given count numbers))) ≡ goal → out ≡ goal
+  entries_end h e = each_end entry_bytes entry_size given_size given_in count numbers out goal at i h e
 
 -- the header, and the whole sheet
-pub header-put : (l letters l₁ l₂ l₃ : List ℕ) (rule vessels movements : ℕ) → letters ≡ mark → l₁ ≡ sets l 0 letters
-    → l₂ ≡ sets l₁ ruleAt (countBytes rule vessels movements) → l₃ ≡ sets l₂ names_at (layoutBytes vessels movements)
-    → l₃ ≡ sets l 0 (headerBytes rule vessels movements)
-header-put l letters l₁ l₂ l₃ rule vessels movements em e₁ e₂ e₃ =
-    let behind : names_at ≡ 0 + length (mark ++ countBytes rule vessels movements) = simp (length-append, length-bytes) in
-    put_then l l₂ l₃ (mark ++ countBytes rule vessels movements) (layoutBytes vessels movements) 0 names_at behind
-    (put_then l l₁ l₂ mark (countBytes rule vessels movements) 0 ruleAt refl (e₁ ∙ rw em) e₂) e₃
+pub header_put : (l letters l₁ l₂ l₃ : List ℕ) (rule vessels movements : ℕ) → letters ≡ mark → l₁ ≡ sets l 0 letters
+    → l₂ ≡ sets l₁ rule_at (count_bytes rule vessels movements) → l₃ ≡ sets l₂ names_at (layout_bytes vessels movements)
+    → l₃ ≡ sets l 0 (header_bytes rule vessels movements)
+header_put l letters l₁ l₂ l₃ rule vessels movements em e₁ e₂ e₃ =
+    let behind : names_at ≡ 0 + length (mark ++ count_bytes rule vessels movements) = simp (length-append, length_bytes) in
+    put_then l l₂ l₃ (mark ++ count_bytes rule vessels movements) (layout_bytes vessels movements) 0 names_at behind
+    (put_then l l₁ l₂ mark (count_bytes rule vessels movements) 0 rule_at refl (e₁ ∙ rw em) e₂) e₃
 
-pub length-header : (rule vessels movements : ℕ) → length (headerBytes rule vessels movements) ≡ headerSize
-length-header rule vessels movements = simp (length-append, length-bytes)
+pub length_header : (rule vessels movements : ℕ) → length (header_bytes rule vessels movements) ≡ header_size
+length_header rule vessels movements = simp (length-append, length_bytes)
 
-pub sheet-put : (l l₁ l₂ l₃ names numbers : List ℕ) (rule vessels : ℕ) → length names ≡ nameSize * vessels
-    → l₁ ≡ sets l 0 (headerBytes rule vessels (countGiven numbers)) → l₂ ≡ sets l₁ headerSize names
-    → l₃ ≡ sets l₂ (entriesStart vessels) (entriesBytes (entriesGiven (countGiven numbers) numbers))
-    → l₃ ≡ sets l 0 (sheetOf rule vessels names numbers)
-unfolding sheetOf
-sheet-put l l₁ l₂ l₃ names numbers rule vessels en e₁ e₂ e₃ =
-    let h = headerBytes rule vessels (countGiven numbers) in
-    let eh = length-header rule vessels (countGiven numbers) in
-    put_then l l₂ l₃ (h ++ names) (entriesBytes (entriesGiven (countGiven numbers) numbers)) 0 (entriesStart vessels)
+pub sheet_put : (l l₁ l₂ l₃ names numbers : List ℕ) (rule vessels : ℕ) → length names ≡ name_size * vessels
+    → l₁ ≡ sets l 0 (header_bytes rule vessels (count_given numbers)) → l₂ ≡ sets l₁ header_size names
+    → l₃ ≡ sets l₂ (entries_start vessels) (entries_bytes (entries_given (count_given numbers) numbers))
+    → l₃ ≡ sets l 0 (sheet_of rule vessels names numbers)
+unfolding sheet_of
+sheet_put l l₁ l₂ l₃ names numbers rule vessels en e₁ e₂ e₃ =
+    let h = header_bytes rule vessels (count_given numbers) in
+    let eh = length_header rule vessels (count_given numbers) in
+    put_then l l₂ l₃ (h ++ names) (entries_bytes (entries_given (count_given numbers) numbers)) 0 (entries_start vessels)
     (rw length-append (omega arith))
-    (put_then l l₁ l₂ h names 0 headerSize (omega arith) e₁ e₂) e₃
+    (put_then l l₁ l₂ h names 0 header_size (omega arith) e₁ e₂) e₃

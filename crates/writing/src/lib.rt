@@ -3,13 +3,13 @@
 #![tactic(auto)]
 
 ghost use Rattle.std.specs.Prelude.{◌≡◌, length};
-ghost use Rattle.writing.specs.Writing.{writeNumber, written};
+ghost use Rattle.writing.specs.Writing.{write_number, written};
 
 mod writer; // writer.rt: the checks of what is to be written, and its bytes
 
 // Writes a sheet at the start of `out`; the bytes behind it remain, and a refusal writes nothing.
 pub fn write(rule: u32, vessels: u32, names: &[u8], numbers: &[u32], out: &mut [u8]) -> u32
-    ensures number { result ≡ writeNumber rule vessels names.now numbers.now (length out.old) }
+    ensures number { result ≡ write_number rule vessels names.now numbers.now (length out.old) }
     ensures bytes { out.new ≡ written rule vessels names.now numbers.now out.old }
 {
     let number = writer::write_number(rule, vessels, names, numbers, out.len());

@@ -2,11 +2,11 @@
 ghost use Rattle.std.specs.Prelude.{◌≡◌, ◌≤◌, ◌+◌, ◌*◌, length};
 ghost use Rattle.std.proofs.lemmas.List.Edits.{sets};
 ghost use Rattle.refusal.specs.Numbers.{first};
-ghost use Rattle.book.specs.Head.{mostVessels};
-ghost use Rattle.fields.specs.Movements.{entrySize, givenSize, entryBytes, entriesGiven, entriesBytes};
-ghost use Rattle.fields.specs.Layout.{nameSize, headerSize, ruleAt, names_at, sheetSize, Within};
-ghost use Rattle.writing.specs.Writing.{countGiven, countBytes, layoutBytes, headerBytes, sheetOf};
-ghost use Rattle.writing.specs.Writing.{givenOff, countChecks, contentChecks, writeNumber};
+ghost use Rattle.book.specs.Head.{most_vessels};
+ghost use Rattle.fields.specs.Movements.{entry_size, given_size, entry_bytes, entries_given, entries_bytes};
+ghost use Rattle.fields.specs.Layout.{name_size, header_size, rule_at, names_at, sheet_size, Within};
+ghost use Rattle.writing.specs.Writing.{count_given, count_bytes, layout_bytes, header_bytes, sheet_of};
+ghost use Rattle.writing.specs.Writing.{given_off, count_checks, content_checks, write_number};
 
 use fields::bytes::{put_bytes, put_number};
 use fields::entries::{Entry, given};
@@ -17,8 +17,8 @@ use fields::layout::{
 
 // Whether the name bytes are not 8 for each vessel, or the numbers not 5 for each movement.
 fn given_off(vessels: u32, names: &[u8], numbers: &[u32]) -> bool
-    requires { vessels ≤ mostVessels }
-    ensures { result ≡ givenOff vessels names.now numbers.now }
+    requires { vessels ≤ most_vessels }
+    ensures { result ≡ given_off vessels names.now numbers.now }
 {
     if names.len() != NAME_SIZE * (vessels as usize) {
         return true;
@@ -28,7 +28,7 @@ fn given_off(vessels: u32, names: &[u8], numbers: &[u32]) -> bool
 
 // The first check that the rule and the counts fail, or 0.
 fn count_number(rule: u32, vessels: u32, names: &[u8], numbers: &[u32]) -> u32
-    ensures { result ≡ first (countChecks rule vessels names.now numbers.now) }
+    ensures { result ≡ first (count_checks rule vessels names.now numbers.now) }
 {
     let open = ledger::opening::open_number(rule, vessels);
     if open != 0 {
@@ -45,8 +45,8 @@ fn count_number(rule: u32, vessels: u32, names: &[u8], numbers: &[u32]) -> u32
 
 // The first check that the names, the movements and the room fail, or 0.
 fn content_number(vessels: u32, movements: usize, names: &[u8], numbers: &[u32], room: usize) -> u32
-    requires { Within vessels movements × (length names.now ≡ nameSize * vessels) × (givenSize * movements ≤ length numbers.now) }
-    ensures { result ≡ first (contentChecks vessels movements names.now numbers.now room) }
+    requires { Within vessels movements × (length names.now ≡ name_size * vessels) × (given_size * movements ≤ length numbers.now) }
+    ensures { result ≡ first (content_checks vessels movements names.now numbers.now room) }
 {
     let v = vessels as usize;
     if names::names_off(names, v) {
@@ -64,7 +64,7 @@ fn content_number(vessels: u32, movements: usize, names: &[u8], numbers: &[u32],
 
 // The first check that what is to be written fails, or 0.
 pub fn write_number(rule: u32, vessels: u32, names: &[u8], numbers: &[u32], room: usize) -> u32
-    ensures { result ≡ writeNumber rule vessels names.now numbers.now room }
+    ensures { result ≡ write_number rule vessels names.now numbers.now room }
 {
     let number = count_number(rule, vessels, names, numbers);
     if number != 0 {
@@ -74,8 +74,8 @@ pub fn write_number(rule: u32, vessels: u32, names: &[u8], numbers: &[u32], room
 }
 
 fn put_counts(out: &mut [u8], rule: u32, vessels: u32, movements: u32)
-    requires { headerSize ≤ length out.old }
-    ensures { out.new ≡ sets out.old ruleAt (countBytes rule vessels movements) }
+    requires { header_size ≤ length out.old }
+    ensures { out.new ≡ sets out.old rule_at (count_bytes rule vessels movements) }
 {
     put_number(out, RULE_AT, 2, rule);
     put_number(out, VESSELS_AT, 2, vessels);
@@ -83,8 +83,8 @@ fn put_counts(out: &mut [u8], rule: u32, vessels: u32, movements: u32)
 }
 
 fn put_layout(out: &mut [u8], vessels: u32, movements: u32)
-    requires { (headerSize ≤ length out.old) × Within vessels movements }
-    ensures { out.new ≡ sets out.old names_at (layoutBytes vessels movements) }
+    requires { (header_size ≤ length out.old) × Within vessels movements }
+    ensures { out.new ≡ sets out.old names_at (layout_bytes vessels movements) }
 {
     let start = HEADER_SIZE + NAME_SIZE * (vessels as usize);
     let size = start + ENTRY_SIZE * (movements as usize);
@@ -94,8 +94,8 @@ fn put_layout(out: &mut [u8], vessels: u32, movements: u32)
 }
 
 fn put_header(out: &mut [u8], rule: u32, vessels: u32, movements: u32)
-    requires { (headerSize ≤ length out.old) × Within vessels movements }
-    ensures { out.new ≡ sets out.old 0 (headerBytes rule vessels movements) }
+    requires { (header_size ≤ length out.old) × Within vessels movements }
+    ensures { out.new ≡ sets out.old 0 (header_bytes rule vessels movements) }
 {
     let letters = fields::layout::mark();
     put_bytes(out, 0, &letters);
@@ -105,8 +105,8 @@ fn put_header(out: &mut [u8], rule: u32, vessels: u32, movements: u32)
 
 // Puts a movement into the twelve bytes from `at` on.
 fn put_entry(out: &mut [u8], at: usize, e: Entry)
-    requires { at + entrySize ≤ length out.old }
-    ensures { out.new ≡ sets out.old at (entryBytes e) }
+    requires { at + entry_size ≤ length out.old }
+    ensures { out.new ≡ sets out.old at (entry_bytes e) }
 {
     put_number(out, at, 1, e.source);
     put_number(out, at + 1, 1, e.destination);
@@ -117,8 +117,8 @@ fn put_entry(out: &mut [u8], at: usize, e: Entry)
 
 // Puts the movements given into the bytes from `at` on.
 fn put_entries(out: &mut [u8], at: usize, numbers: &[u32], count: usize)
-    requires { (givenSize * count ≤ length numbers.now) × (at + entrySize * count ≤ length out.old) }
-    ensures { out.new ≡ sets out.old at (entriesBytes (entriesGiven count numbers.now)) }
+    requires { (given_size * count ≤ length numbers.now) × (at + entry_size * count ≤ length out.old) }
+    ensures { out.new ≡ sets out.old at (entries_bytes (entries_given count numbers.now)) }
 {
     let mut i: usize = 0;
     while i < count {
@@ -130,9 +130,9 @@ fn put_entries(out: &mut [u8], at: usize, numbers: &[u32], count: usize)
 
 // Puts a sheet at the start of `out`.
 pub fn put_sheet(rule: u32, vessels: u32, names: &[u8], numbers: &[u32], out: &mut [u8])
-    requires { Within vessels (countGiven numbers.now) × (length names.now ≡ nameSize * vessels)
-        × (sheetSize vessels (countGiven numbers.now) ≤ length out.old) }
-    ensures { out.new ≡ sets out.old 0 (sheetOf rule vessels names.now numbers.now) }
+    requires { Within vessels (count_given numbers.now) × (length names.now ≡ name_size * vessels)
+        × (sheet_size vessels (count_given numbers.now) ≤ length out.old) }
+    ensures { out.new ≡ sets out.old 0 (sheet_of rule vessels names.now numbers.now) }
 {
     let count = numbers.len() / GIVEN_SIZE;
     put_header(out, rule, vessels, count as u32);

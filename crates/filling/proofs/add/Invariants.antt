@@ -1,8 +1,5 @@
 -- `filling::add` meets its contract. The invariant: entering the pieces left makes the report that is wanted.
--- Assumes nothing.
-use Prim.Native.Nat.{◌-◌, ◌≤◌}
-use mathlib.Core.Path.{◌≡◌}
-use lib.ListN.{length, drop}
+use Rattle.std.proofs.Common.{◌-◌, ◌≤◌, ◌≡◌, length, drop}
 use Rattle.table.specs.Table.{pieces_of}
 use Rattle.filling.specs.Scatter.{counted, index_of, scatter}
 use Rattle.filling.proofs.add.Given as goal

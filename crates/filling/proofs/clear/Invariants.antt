@@ -1,8 +1,5 @@
 -- `filling::clear` meets its contract. The invariant: i numbers are 0, and the rest is as it was.
--- Assumes nothing.
-use Prim.Native.Nat.{◌-◌, ◌≤◌}
-use mathlib.Core.Path.{◌≡◌}
-use lib.ListN.{length}
+use Rattle.std.proofs.Common.{◌-◌, ◌≤◌, ◌≡◌, length}
 use Rattle.filling.specs.Scatter.{cleared}
 use Rattle.filling.proofs.clear.Given as goal
 

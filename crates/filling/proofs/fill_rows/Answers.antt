@@ -1,8 +1,5 @@
--- `filling::fill_rows` meets its contract. The invariant: the rows of the vessels below v are written, and what is behind them is as it was.
--- A turn lends the part from row v on to the held report, which writes the row at its start.
--- Assumes nothing.
-use borrow.Author.Rules.{rules}
-use mathlib.Core.Path.{refl, ◌∙◌}
+-- `fill_rows`: what its invariant leaves to show.
+use Rattle.std.proofs.Common.{rules, refl, ◌∙◌}
 use Rattle.filling.proofs.Filling.{rows_none, rows_next}
 use Rattle.filling.proofs.fill_rows.Goals as goal
 

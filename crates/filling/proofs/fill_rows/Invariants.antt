@@ -1,10 +1,6 @@
 -- `filling::fill_rows` meets its contract. The invariant: the rows of the vessels below v are written, and what is behind them is as it was.
 -- A turn lends the part from row v on to the held report, which writes the row at its start.
--- Assumes nothing.
-use Prim.Native.Nat.{◌*◌, ◌-◌, ◌≤◌}
-use mathlib.Core.Path.{◌≡◌}
-use mathlib.Core.List.{◌++◌}
-use lib.ListN.{length, drop}
+use Rattle.std.proofs.Common.{◌*◌, ◌-◌, ◌≤◌, ◌≡◌, ◌++◌, length, drop}
 use Rattle.table.specs.Table.{pieces_of}
 use Rattle.book.specs.Reports.{rows}
 use Rattle.filling.proofs.fill_rows.Given as goal

@@ -1,7 +1,6 @@
 -- `ages_off` meets its contract. The invariant: the calls that are left tell whether some age is off.
 -- A turn leaves one call less.
--- Assumes nothing.
-use Prim.Native.Nat.{◌-◌}
+use Rattle.std.proofs.Common.{◌-◌}
 use Rattle.journal.proofs.AgeLaws.{Scanned}
 use Rattle.journal.proofs.ages_off.Given as goal
 

@@ -1,14 +1,11 @@
--- `journal::call_all` meets its contract. The invariant is `Going`: what was answered and what is left make the whole.
--- A turn makes one call; the measure is how many are left.
--- Assumes nothing.
-use Rattle.journal.proofs.AgeLaws.{ages-one}
-use borrow.Author.Rules.{rules}
-use Prim.Native.Nat.{◌-◌}
+-- `call_all`: what its invariant leaves to show.
+use Rattle.journal.proofs.AgeLaws.{ages_one}
+use Rattle.std.proofs.Common.{rules, ◌-◌}
 use Rattle.journal.proofs.Carrying.{going_next, going_end}
 use Rattle.journal.proofs.call_all.Goals as goal
 
 pub call_at-r-requires : goal.call_at-r-requires
-call_at-r-requires c = search (rules, ages-one)
+call_at-r-requires c = search (rules, ages_one)
 
 pub loop-i-preserved : goal.loop-i-preserved
 loop-i-preserved c =

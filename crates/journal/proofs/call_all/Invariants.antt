@@ -1,7 +1,6 @@
 -- `journal::call_all` meets its contract. The invariant is `Going`: what was answered and what is left make the whole.
 -- A turn makes one call; the measure is how many are left.
--- Assumes nothing.
-use Prim.Native.Nat.{◌-◌}
+use Rattle.std.proofs.Common.{◌-◌}
 use Rattle.journal.proofs.Carrying.{Going}
 use Rattle.journal.proofs.call_all.Given as goal
 

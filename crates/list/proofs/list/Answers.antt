@@ -1,5 +1,4 @@
 -- `list` meets its contract: the bytes read are the sheet, and the bytes written its listing.
--- Assumes nothing.
 use Rattle.std.proofs.Common.{ap}
 use Rattle.list.proofs.ListLaws.{listed}
 use Rattle.list.proofs.list.Goals as goal

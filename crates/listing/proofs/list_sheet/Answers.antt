@@ -1,10 +1,9 @@
 -- The run yields its answer and its table, and the listing of these is the sheet's.
--- Assumes nothing.
-use Rattle.listing.proofs.RunListing.{list-ready, list_done}
+use Rattle.listing.proofs.RunListing.{list_ready, list_done}
 use Rattle.listing.proofs.list_sheet.Goals as goal
 
 pub put_listing-requires : goal.put_listing-requires
-put_listing-requires c = list-ready _ _ _ _ c.run-ran.ensures _ c.requires
+put_listing-requires c = list_ready _ _ _ _ c.run-ran.ensures _ c.requires
 
 pub returns : goal.returns
 returns c = record {

@@ -1,11 +1,10 @@
 -- A head without vessels is listed as refused, every other as a book. What was put at the start has its length and leaves what is behind it.
--- Assumes nothing.
-use Rattle.listing.proofs.LineLaws.{listed-refused, listed-book}
-use borrow.Author.Rules.{rules}
+use Rattle.listing.proofs.LineLaws.{listed_refused, listed_book}
+use Rattle.std.proofs.Common.{rules}
 use Rattle.listing.proofs.put_listing.Goals as goal
 
 pub returns-then-head-eq0 : goal.returns-then-head-eq0
-returns-then-head-eq0 c = search (rules, listed-refused)
+returns-then-head-eq0 c = search (rules, listed_refused)
 
 pub returns : goal.returns
-returns c = search (rules, listed-book)
+returns c = search (rules, listed_book)

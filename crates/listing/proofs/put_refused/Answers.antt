@@ -1,12 +1,11 @@
 -- A word and the newline, put one behind the other, are the line.
--- Assumes nothing.
-use native.Mathlib.Omega.{arith}
+use Rattle.std.proofs.Common.{arith}
 use Rattle.text.proofs.TextLaws.{then}
-use Rattle.listing.specs.Listing.{refusedLine}
+use Rattle.listing.specs.Listing.{refused_line}
 use Rattle.listing.proofs.put_refused.Goals as goal
 
 pub returns : goal.returns
-unfolding refusedLine
+unfolding refused_line
 returns c =
     (then c.put_word-behind.ensures.0 c.put_text.ensures,
-    omega (arith, c.put_word-behind.ensures.1, c.put_text.ensures.next-is))
+    omega (arith, c.put_word-behind.ensures.1, c.put_text.ensures.next_is))

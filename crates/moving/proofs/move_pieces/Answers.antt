@@ -1,16 +1,15 @@
 -- `move_pieces` meets its contract: what the order and its plan promise tells whether there is room, and if so, what applying the
 -- plan leaves is what is asked (proofs/Moving.antt).
--- Assumes nothing.
-use borrow.Author.Rules.{rules}
-use Rattle.moving.proofs.Moving.{move-refused, move-ready, move-applied}
+use Rattle.std.proofs.Common.{rules}
+use Rattle.moving.proofs.Moving.{move_refused, move_ready, move_applied}
 use Rattle.moving.proofs.move_pieces.Goals as goal
 
 pub returns-then-is_full : goal.returns-then-is_full
-returns-then-is_full c = search (rules, move-refused)
+returns-then-is_full c = search (rules, move_refused)
 
 pub apply-requires : goal.apply-requires
-apply-requires c = move-ready c.requires c.picking_order-order.ensures c.plan_of-plan.ensures c.is_full.ensures c.if-is_full.false
+apply-requires c = move_ready c.requires c.picking_order-order.ensures c.plan_of-plan.ensures c.is_full.ensures c.if-is_full.false
 
 pub returns : goal.returns
 returns c =
-    move-applied c.requires c.picking_order-order.ensures c.plan_of-plan.ensures c.is_full.ensures c.if-is_full.false c.apply.ensures
+    move_applied c.requires c.picking_order-order.ensures c.plan_of-plan.ensures c.is_full.ensures c.if-is_full.false c.apply.ensures

@@ -1,7 +1,5 @@
 -- The letters passed and those that what is left begins with are those of the name. The measure is what is left of it.
-use Prim.Native.Nat.{◌+◌, ◌-◌, ◌≤◌}
-use mathlib.Core.Path.{◌≡◌}
-use lib.ListN.{length, drop}
+use Rattle.std.proofs.Common.{◌+◌, ◌-◌, ◌≤◌, ◌≡◌, length, drop}
 use Rattle.names.specs.Names.{letters}
 use Rattle.names.proofs.letter_count.Given as goal
 

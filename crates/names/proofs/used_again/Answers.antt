@@ -1,14 +1,13 @@
--- The name is among those left where it is among those behind it. The measure is the names left.
-use borrow.Author.Rules.{rules}
-use Prim.Native.Nat.{◌-◌}
-use Rattle.fields.proofs.GroupLaws.{scan-turn, scan-stop, scan-end}
+-- `used_again`: what its invariant leaves to show.
+use Rattle.std.proofs.Common.{rules, ◌-◌}
+use Rattle.fields.proofs.GroupLaws.{scan_turn, scan_stop, scan_end}
 use Rattle.names.proofs.used_again.Goals as goal
 
 pub returns-then-same_name : goal.returns-then-same_name
-returns-then-same_name c = search (rules, scan-stop)
+returns-then-same_name c = search (rules, scan_stop)
 
 pub loop-j-preserved : goal.loop-j-preserved
-loop-j-preserved c = (search rules, search (rules, scan-turn))
+loop-j-preserved c = (search rules, search (rules, scan_turn))
 
 pub returns : goal.returns
-returns c = search (rules, scan-end)
+returns c = search (rules, scan_end)

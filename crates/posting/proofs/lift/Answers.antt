@@ -1,12 +1,11 @@
 -- `lift` meets its contract: refused by 1 or 4, or what `lift_audited` promises.
--- Assumes nothing.
 use Rattle.carrying.proofs.Next.{audited}
-use Rattle.posting.proofs.Posted.{posts-off}
-use borrow.Author.Rules.{rules}
+use Rattle.posting.proofs.Posted.{posts_off}
+use Rattle.std.proofs.Common.{rules}
 use Rattle.posting.proofs.lift.Goals as goal
 
 pub returns-then-off-ne0 : goal.returns-then-off-ne0
-returns-then-off-ne0 c = search (rules, posts-off)
+returns-then-off-ne0 c = search (rules, posts_off)
 
 pub lift_audited-requires : goal.lift_audited-requires
 lift_audited-requires c = search (rules, audited)

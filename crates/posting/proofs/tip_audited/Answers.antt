@@ -1,18 +1,17 @@
 -- `tip_audited` meets its contract: refused by a check of its own, or what `carry_alone` promises of its motion.
--- Assumes nothing.
-use Rattle.carrying.proofs.Next.{vessels-fit}
-use Rattle.posting.proofs.Posted.{tip-refused, tip-carriable, tip-done}
-use borrow.Author.Rules.{rules}
+use Rattle.carrying.proofs.Next.{vessels_fit}
+use Rattle.posting.proofs.Posted.{tip_refused, tip_carriable, tip_done}
+use Rattle.std.proofs.Common.{rules}
 use Rattle.posting.proofs.tip_audited.Goals as goal
 
 pub of_tip-number-requires : goal.of_tip-number-requires
-of_tip-number-requires c = search (rules, vessels-fit)
+of_tip-number-requires c = search (rules, vessels_fit)
 
 pub returns-then-number-ne0 : goal.returns-then-number-ne0
-returns-then-number-ne0 c = search (rules, tip-refused)
+returns-then-number-ne0 c = search (rules, tip_refused)
 
 pub carry_alone-r-requires : goal.carry_alone-r-requires
-carry_alone-r-requires c = (search rules, search (rules, tip-carriable))
+carry_alone-r-requires c = (search rules, search (rules, tip_carriable))
 
 pub returns : goal.returns
-returns c = search (rules, tip-done)
+returns c = search (rules, tip_done)

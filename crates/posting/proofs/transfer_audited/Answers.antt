@@ -1,21 +1,20 @@
 -- `transfer_audited` meets its contract: refused by a check of its own, or what `carry_alone` promises of its motion.
--- Assumes nothing.
-use Rattle.carrying.proofs.Next.{vessels-fit}
-use Rattle.posting.proofs.Posted.{post-refused, post-in-time, post-carriable, post-done}
-use borrow.Author.Rules.{rules}
+use Rattle.carrying.proofs.Next.{vessels_fit}
+use Rattle.posting.proofs.Posted.{post_refused, post_in_time, post_carriable, post_done}
+use Rattle.std.proofs.Common.{rules}
 use Rattle.posting.proofs.transfer_audited.Goals as goal
 
 pub of_transfer-number-requires : goal.of_transfer-number-requires
-of_transfer-number-requires c = search (rules, vessels-fit)
+of_transfer-number-requires c = search (rules, vessels_fit)
 
 pub returns-then-number-ne0 : goal.returns-then-number-ne0
-returns-then-number-ne0 c = search (rules, post-refused)
+returns-then-number-ne0 c = search (rules, post_refused)
 
 pub motion_of-m-requires : goal.motion_of-m-requires
-motion_of-m-requires c = search (rules, post-in-time)
+motion_of-m-requires c = search (rules, post_in_time)
 
 pub carry_alone-requires : goal.carry_alone-requires
-carry_alone-requires c = (search rules, search (rules, post-carriable))
+carry_alone-requires c = (search rules, search (rules, post_carriable))
 
 pub returns : goal.returns
-returns c = search (rules, post-done)
+returns c = search (rules, post_done)

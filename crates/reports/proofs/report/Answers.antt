@@ -1,14 +1,13 @@
 -- `reports::report` meets its contract: refused, or written on a book known to add up.
--- Assumes nothing.
-use borrow.Author.Rules.{rules}
-use Rattle.reports.proofs.Asked.{asked-refused, asked-there, asked-fits, asked-reportable, asked-accepted}
+use Rattle.std.proofs.Common.{rules}
+use Rattle.reports.proofs.Asked.{asked_refused, asked_there, asked_fits, asked_reportable, asked_accepted}
 use Rattle.reports.proofs.report.Goals as goal
 
 pub returns-then-number-ne0 : goal.returns-then-number-ne0
-returns-then-number-ne0 c = search (rules, asked-refused)
+returns-then-number-ne0 c = search (rules, asked_refused)
 
 pub fill-requires : goal.fill-requires
-fill-requires c = search (rules, asked-there, asked-fits, asked-reportable)
+fill-requires c = search (rules, asked_there, asked_fits, asked_reportable)
 
 pub returns : goal.returns
-returns c = search (rules, asked-accepted)
+returns c = search (rules, asked_accepted)

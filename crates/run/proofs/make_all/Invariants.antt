@@ -1,8 +1,7 @@
 -- `run::make_all` meets its contract. The invariant is `Going`: the book is known to add up, and going on from movement i ends as the whole run does.
 -- A turn makes one movement; the measure is how many are left. Places: `start` is the function's own, `loop` the head of the loop, `turn` its test,
 -- `made` follows the movement.
--- Assumes nothing.
-use Prim.Native.Nat.{◌-◌}
+use Rattle.std.proofs.Common.{◌-◌}
 use Rattle.run.proofs.RunLaws.{Going}
 use Rattle.run.proofs.make_all.Given as goal
 

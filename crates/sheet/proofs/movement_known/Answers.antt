@@ -1,11 +1,10 @@
 -- A sheet that reads well holds the movement, its age fits 16 bits, and the movement read is the answer.
-use Rattle.sheet.proofs.AnswerLaws.{sheet-fits, entry-fits}
-use mathlib.Core.Path.{refl}
-use borrow.Author.Rules.{rules}
+use Rattle.sheet.proofs.AnswerLaws.{sheet_fits, entry_fits}
+use Rattle.std.proofs.Common.{refl, rules}
 use Rattle.sheet.proofs.movement_known.Goals as goal
 
 pub read16-vessels-requires : goal.read16-vessels-requires
-read16-vessels-requires c = sheet-fits _ _ _ refl c.before.requires.0 (search rules)
+read16-vessels-requires c = sheet_fits _ _ _ refl c.before.requires.0 (search rules)
 
 pub read_entry-e-requires : goal.read_entry-e-requires
-read_entry-e-requires c = search (rules, entry-fits)
+read_entry-e-requires c = search (rules, entry_fits)

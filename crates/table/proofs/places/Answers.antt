@@ -1,6 +1,5 @@
 -- `table::places` meets its contract: the two returns are the two sides of the minimum.
--- Assumes nothing.
-use borrow.Author.Rules.{rules}
+use Rattle.std.proofs.Common.{rules}
 use Rattle.table.specs.Table.{places_of}
 use Rattle.table.proofs.places.Goals as goal
 

@@ -1,9 +1,5 @@
 -- The digits left before those put are all of them, and the power of ten at the index bounds what is left. The measure is what is left.
--- Assumes nothing.
-use Prim.Native.Nat.{◌^◌, ◌<◌}
-use mathlib.Core.Path.{◌≡◌}
-use mathlib.Core.List.{◌++◌}
-use lib.ListN.{length, drop}
+use Rattle.std.proofs.Common.{◌^◌, ◌<◌, ◌≡◌, ◌++◌, length, drop}
 use Rattle.text.specs.Digits.{digits, decimal}
 use Rattle.text.proofs.spell.Given as goal
 

@@ -1,7 +1,5 @@
 -- The bytes left, put where they belong, make of the slice what all of them make of it at the start. The measure is the bytes left.
-use Prim.Native.Nat.{◌+◌, ◌-◌, ◌≤◌}
-use mathlib.Core.Path.{◌≡◌}
-use lib.ListN.{length, drop}
+use Rattle.std.proofs.Common.{◌+◌, ◌-◌, ◌≤◌, ◌≡◌, length, drop}
 use lib.Seq.{sets}
 use Rattle.fields.proofs.bytes.put_bytes.Given as goal
 

@@ -1,12 +1,10 @@
--- The bytes still to be put, at the place still to be written, make of the slice what all of them make of it at the start.
--- A turn stores the low byte of what is left of the number. The measure is the bytes still to be put.
-use borrow.Author.Rules.{rules}
-use Prim.Native.Nat.{◌-◌}
-use Rattle.fields.proofs.ByteLaws.{put-turn, put-end}
+-- `bytes::put_number`: what its invariant leaves to show.
+use Rattle.std.proofs.Common.{rules, ◌-◌}
+use Rattle.fields.proofs.ByteLaws.{put_turn, put_end}
 use Rattle.fields.proofs.bytes.put_number.Goals as goal
 
 pub loop-i-preserved : goal.loop-i-preserved
-loop-i-preserved c = (search rules, search rules, search (rules, put-turn))
+loop-i-preserved c = (search rules, search rules, search (rules, put_turn))
 
 pub returns : goal.returns
-returns c = search (rules, put-end)
+returns c = search (rules, put_end)

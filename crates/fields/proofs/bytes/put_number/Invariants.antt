@@ -1,8 +1,6 @@
 -- The bytes still to be put, at the place still to be written, make of the slice what all of them make of it at the start.
 -- A turn stores the low byte of what is left of the number. The measure is the bytes still to be put.
-use Prim.Native.Nat.{◌+◌, ◌-◌, ◌≤◌}
-use mathlib.Core.Path.{◌≡◌}
-use lib.ListN.{length}
+use Rattle.std.proofs.Common.{◌+◌, ◌-◌, ◌≤◌, ◌≡◌, length}
 use lib.Seq.{sets}
 use Rattle.fields.specs.Bytes.{bytes_of}
 use Rattle.fields.proofs.bytes.put_number.Given as goal

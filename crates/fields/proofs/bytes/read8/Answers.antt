@@ -1,7 +1,7 @@
 -- A byte is the number in it.
-use borrow.Author.Rules.{rules}
-use Rattle.fields.proofs.ByteLaws.{value-one}
+use Rattle.std.proofs.Common.{rules}
+use Rattle.fields.proofs.ByteLaws.{value_one}
 use Rattle.fields.proofs.bytes.read8.Goals as goal
 
 pub returns : goal.returns
-returns c = (search (rules, value-one), search rules)
+returns c = (search (rules, value_one), search rules)

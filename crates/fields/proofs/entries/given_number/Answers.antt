@@ -1,14 +1,13 @@
--- The first check that the movements left fail is that of all. The measure is the movements left.
-use borrow.Author.Rules.{rules}
-use Prim.Native.Nat.{◌-◌}
-use Rattle.fields.proofs.EntryLaws.{named-given, check-turn, check-stop, check-end}
+-- `entries::given_number`: what its invariant leaves to show.
+use Rattle.std.proofs.Common.{rules, ◌-◌}
+use Rattle.fields.proofs.EntryLaws.{named_given, check_turn, check_stop, check_end}
 use Rattle.fields.proofs.entries.given_number.Goals as goal
 
 pub returns-then-n-ne0 : goal.returns-then-n-ne0
-returns-then-n-ne0 c = search (rules, named-given, check-stop)
+returns-then-n-ne0 c = search (rules, named_given, check_stop)
 
 pub loop-i-preserved : goal.loop-i-preserved
-loop-i-preserved c = search (rules, named-given, check-turn)
+loop-i-preserved c = search (rules, named_given, check_turn)
 
 pub returns : goal.returns
-returns c = search (rules, check-end)
+returns c = search (rules, check_end)

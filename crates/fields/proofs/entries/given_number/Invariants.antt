@@ -1,11 +1,11 @@
 -- The first check that the movements left fail is that of all. The measure is the movements left.
-use Prim.Native.Nat.{◌-◌}
-use Rattle.fields.specs.Movements.{givenSize, givenIn, givenChecks}
+use Rattle.std.proofs.Common.{◌-◌}
+use Rattle.fields.specs.Movements.{given_size, given_in, given_checks}
 use Rattle.fields.proofs.EntryLaws.{Checked}
 use Rattle.fields.proofs.entries.given_number.Given as goal
 
 abbrev pub invariant-loop-i : goal.invariant-loop-i
-invariant-loop-i l = Checked (givenChecks l.vessels) givenSize givenIn l.count l.numbers l.i
+invariant-loop-i l = Checked (given_checks l.vessels) given_size given_in l.count l.numbers l.i
 
 abbrev pub decreases-loop-i : goal.decreases-loop-i
 decreases-loop-i l = l.count - l.i

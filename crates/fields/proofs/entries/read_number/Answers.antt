@@ -1,14 +1,13 @@
--- The first check that the movements left fail is that of all. The measure is the movements left.
-use borrow.Author.Rules.{rules}
-use Prim.Native.Nat.{◌-◌}
-use Rattle.fields.proofs.EntryLaws.{named-entry, check-turn, check-stop, check-end}
-use Rattle.fields.proofs.entries.read_number.Goals as goal
+-- `entries::read_number`: what its invariant leaves to show.
+use Rattle.std.proofs.Common.{rules, ◌-◌}
+use Rattle.fields.proofs.EntryLaws.{named_entry, check_turn, check_stop, check_end}
+use Rattle.fields.proofs.entries.read_number_lem.Goals as goal
 
 pub returns-then-n-ne0 : goal.returns-then-n-ne0
-returns-then-n-ne0 c = search (rules, named-entry, check-stop)
+returns-then-n-ne0 c = search (rules, named_entry, check_stop)
 
 pub loop-i-preserved : goal.loop-i-preserved
-loop-i-preserved c = search (rules, named-entry, check-turn)
+loop-i-preserved c = search (rules, named_entry, check_turn)
 
 pub returns : goal.returns
-returns c = search (rules, check-end)
+returns c = search (rules, check_end)

@@ -1,11 +1,11 @@
 -- The first check that the movements left fail is that of all. The measure is the movements left.
-use Prim.Native.Nat.{◌-◌}
-use Rattle.fields.specs.Movements.{entrySize, entryIn, entryChecks}
+use Rattle.std.proofs.Common.{◌-◌}
+use Rattle.fields.specs.Movements.{entry_size, entry_in, entry_checks}
 use Rattle.fields.proofs.EntryLaws.{Checked}
-use Rattle.fields.proofs.entries.read_number.Given as goal
+use Rattle.fields.proofs.entries.read_number_lem.Given as goal
 
 abbrev pub invariant-loop-i : goal.invariant-loop-i
-invariant-loop-i l = Checked (entryChecks l.vessels) entrySize entryIn l.count l.entries l.i
+invariant-loop-i l = Checked (entry_checks l.vessels) entry_size entry_in l.count l.entries l.i
 
 abbrev pub decreases-loop-i : goal.decreases-loop-i
 decreases-loop-i l = l.count - l.i

@@ -1,15 +1,13 @@
--- `audit::all_zero` meets its contract. The invariant: the numbers left are all zero where all are.
--- Assumes nothing.
-use borrow.Author.Rules.{rules}
-use Prim.Native.Nat.{◌-◌}
-use Rattle.book.proofs.HeadLaws.{zero-next, zero-stop, zero-end}
+-- `audit::all_zero`: what its invariant leaves to show.
+use Rattle.std.proofs.Common.{rules, ◌-◌}
+use Rattle.book.proofs.HeadLaws.{zero_next, zero_stop, zero_end}
 use Rattle.ledger.proofs.audit.all_zero.Goals as goal
 
 pub returns-then-rest-i-ne0 : goal.returns-then-rest-i-ne0
-returns-then-rest-i-ne0 c = search (rules, zero-stop)
+returns-then-rest-i-ne0 c = search (rules, zero_stop)
 
 pub loop-i-preserved : goal.loop-i-preserved
-loop-i-preserved c = search (rules, zero-next)
+loop-i-preserved c = search (rules, zero_next)
 
 pub returns : goal.returns
-returns c = search (rules, zero-end)
+returns c = search (rules, zero_end)

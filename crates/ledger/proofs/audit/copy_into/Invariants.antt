@@ -1,9 +1,5 @@
 -- `audit::copy_into` meets its contract. The invariant: i numbers are copied, and the rest is as it was. The measure is how many are left.
--- Assumes nothing.
-use Prim.Native.Nat.{◌-◌, ◌≤◌}
-use mathlib.Core.Path.{◌≡◌}
-use mathlib.Core.List.{◌++◌}
-use lib.ListN.{length, take, drop}
+use Rattle.std.proofs.Common.{◌-◌, ◌≤◌, ◌≡◌, ◌++◌, length, take, drop}
 use Rattle.ledger.proofs.audit.copy_into.Given as goal
 
 abbrev pub invariant-loop-i : goal.invariant-loop-i

@@ -1,8 +1,7 @@
 -- `audit::is_balanced` meets its contract: the balances are copied, and the scale's is put behind them.
--- Assumes nothing.
-use Rattle.ledger.proofs.Drained.{drawn-all}
-use borrow.Author.Rules.{rules}
+use Rattle.ledger.proofs.Drained.{drawn_all}
+use Rattle.std.proofs.Common.{rules}
 use Rattle.ledger.proofs.audit.is_balanced.Goals as goal
 
 pub returns : goal.returns
-returns c = search (rules, drawn-all)
+returns c = search (rules, drawn_all)

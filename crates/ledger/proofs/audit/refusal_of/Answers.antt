@@ -1,14 +1,13 @@
 -- `audit::refusal_of` meets its contract: the three returns are check 1, no check, and check 4.
--- Assumes nothing.
 use Rattle.table.proofs.Tests.{tests}
-use Rattle.book.specs.Memory.{bookChecks}
+use Rattle.book.specs.Memory.{book_checks}
 use Rattle.book.proofs.BalanceLaws.{sized}
-use Rattle.book.proofs.Memory.{book-adds-up, book-off}
-use borrow.Author.Rules.{rules}
+use Rattle.book.proofs.Memory.{book_adds_up, book_off}
+use Rattle.std.proofs.Common.{rules}
 use Rattle.ledger.proofs.audit.refusal_of.Goals as goal
 
 pub returns-then-table-lt4 : goal.returns-then-table-lt4
-unfolding bookChecks
+unfolding book_checks
 returns-then-table-lt4 c = (
   search tests,
   sized (λ v. search rules) (search rules) (search rules),
@@ -16,12 +15,12 @@ returns-then-table-lt4 c = (
 
 pub returns-then-adds_up : goal.returns-then-adds_up
 returns-then-adds_up c = (
-  search (rules, book-adds-up),
+  search (rules, book_adds_up),
   sized (λ v. search rules) (search rules) (search rules),
 )
 
 pub returns : goal.returns
 returns c = (
-  search (rules, book-off),
+  search (rules, book_off),
   sized (λ v. search rules) (search rules) (search rules),
 )

@@ -1,13 +1,12 @@
 -- `balances::with_balance` meets its contract: one number is put, and no other changes.
--- Assumes nothing.
 use Rattle.table.proofs.Tests.{tests}
-use Rattle.book.specs.Head.{withBalance}
+use Rattle.book.specs.Head.{with_balance}
 use Rattle.ledger.proofs.balances.with_balance.Goals as goal
 
 pub returns-then-holder-eq-SCALE : goal.returns-then-holder-eq-SCALE
-unfolding withBalance
+unfolding with_balance
 returns-then-holder-eq-SCALE c = search tests
 
 pub returns : goal.returns
-unfolding withBalance
+unfolding with_balance
 returns c = search tests

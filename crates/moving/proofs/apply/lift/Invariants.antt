@@ -1,13 +1,10 @@
 -- `apply::lift` meets its contract. The invariant is `Lifting`: c keys are behind, and the rest of them completes the work.
--- Assumes nothing.
-use mathlib.Core.Path.{◌≡◌}
-use Prim.Native.Nat.{◌-◌, ◌≤◌}
-use lib.ListN.{length}
+use Rattle.std.proofs.Common.{◌≡◌, ◌-◌, ◌≤◌, length}
 use Rattle.moving.proofs.Lifting.{Lifting}
 use Rattle.moving.proofs.apply.lift.Given as goal
 
 abbrev pub invariant-loop-c : goal.invariant-loop-c
-invariant-loop-c l = 
+invariant-loop-c l =
     Lifting l.n l.whole l.c l.m l.order l.keys l.initial.table l.table l.lifted
     × (l.c ≤ l.whole) × (length l.table ≡ length l.initial.table) × (length l.lifted ≡ length l.initial.lifted)
 

@@ -1,19 +1,16 @@
--- `plan::plan_of` meets its contract. The invariant: the plan of the keys from number c on, for the weight left, is the plan of all.
--- A turn takes one key off; the loop ends where the weight is reached, at a piece that is too heavy, or after the last key.
--- Assumes nothing.
-use borrow.Author.Rules.{rules}
-use Prim.Native.Nat.{◌-◌}
-use Rattle.picking.proofs.Walk.{plan-reached, plan-next, plan-stop, plan-end}
+-- `plan::plan_of`: what its invariant leaves to show.
+use Rattle.std.proofs.Common.{rules, ◌-◌}
+use Rattle.picking.proofs.Walk.{plan_reached, plan_next, plan_stop, plan_end}
 use Rattle.picking.proofs.plan.plan_of.Goals as goal
 
 pub returns-then-left-eq0 : goal.returns-then-left-eq0
-returns-then-left-eq0 c = search (rules, plan-reached)
+returns-then-left-eq0 c = search (rules, plan_reached)
 
 pub returns-then-left-p : goal.returns-then-left-p
-returns-then-left-p c = search (rules, plan-stop)
+returns-then-left-p c = search (rules, plan_stop)
 
 pub loop-c-preserved : goal.loop-c-preserved
-loop-c-preserved c = (search (rules, plan-next), search rules)
+loop-c-preserved c = (search (rules, plan_next), search rules)
 
 pub returns : goal.returns
-returns c = search (rules, plan-end)
+returns c = search (rules, plan_end)

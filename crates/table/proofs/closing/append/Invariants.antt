@@ -1,8 +1,5 @@
 -- `closing::append` meets its contract. The invariant: the first c lifted pieces are pasted behind the first j of the table.
--- Assumes nothing.
-use mathlib.Core.Path.{◌≡◌}
-use Prim.Native.Nat.{◌-◌, ◌≤◌}
-use lib.ListN.{length}
+use Rattle.std.proofs.Common.{◌≡◌, ◌-◌, ◌≤◌, length}
 use Rattle.table.proofs.ClosingUp.{laid}
 use Rattle.table.proofs.closing.append.Given as goal
 

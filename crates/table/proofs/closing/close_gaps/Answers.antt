@@ -1,6 +1,5 @@
 -- `closing::close_gaps` meets its contract: where none has gone, as many stay as there are, so all do.
--- Assumes nothing.
-use borrow.Author.Rules.{rules}
+use Rattle.std.proofs.Common.{rules}
 use Rattle.table.proofs.ClosingUp.{no_gaps}
 use Rattle.table.proofs.closing.close_gaps.Goals as goal
 

@@ -1,16 +1,15 @@
 -- A byte is passed that is no digit, or a digit that another follows, or the last digit of a number; behind the loop, all numbers are put, or
 -- as many as there is room for.
--- Assumes nothing.
-use borrow.Author.Rules.{rules}
-use Rattle.text.proofs.NumberLaws.{digit_low, other-turn, digit-turn, last_turn, all-put, with-room, filled}
+use Rattle.std.proofs.Common.{rules}
+use Rattle.text.proofs.NumberLaws.{digit_low, other_turn, digit_turn, last_turn, all_put, with_room, filled}
 use Rattle.text.proofs.parsing.read.Goals as goal
 
 pub loop-i-preserved-then-not-digit_at : goal.loop-i-preserved-then-not-digit_at
-loop-i-preserved-then-not-digit_at c = search (rules, other-turn)
+loop-i-preserved-then-not-digit_at c = search (rules, other_turn)
 
 pub loop-i-preserved-then-digit_at : goal.loop-i-preserved-then-digit_at
 loop-i-preserved-then-digit_at c =
-    digit-turn _ _ _ _ _ _ c.loop-i.invariant c.loop-i-test.true _ _ _ c.digit_at.ensures c.if-not-digit_at.false
+    digit_turn _ _ _ _ _ _ c.loop-i.invariant c.loop-i-test.true _ _ _ c.digit_at.ensures c.if-not-digit_at.false
     c.with_digit-n.ensures c.digit_at-in-loop-i.ensures c.if-digit_at.true
 
 pub loop-i-preserved : goal.loop-i-preserved
@@ -19,10 +18,10 @@ loop-i-preserved c =
     c.with_digit-n.ensures c.digit_at-in-loop-i.ensures _ c.if-digit_at.false c.put.ensures
 
 pub returns-then-at-room-clause-count : goal.returns-then-at-room-clause-count
-returns-then-at-room-clause-count c = search (rules, with-room)
+returns-then-at-room-clause-count c = search (rules, with_room)
 
 pub returns-then-at-room-clause-numbers : goal.returns-then-at-room-clause-numbers
-returns-then-at-room-clause-numbers c = search (rules, all-put)
+returns-then-at-room-clause-numbers c = search (rules, all_put)
 
 pub returns-clause-numbers : goal.returns-clause-numbers
-returns-clause-numbers c = search (rules, all-put)
+returns-clause-numbers c = search (rules, all_put)

@@ -1,7 +1,6 @@
 -- `numbers::read` meets its contract. The invariant: the numbers left, put behind those that are, make of the slice what all of them make of it.
--- A turn passes a byte that is no digit, a digit that another follows, or the last digit of a number. The measure is the bytes left. Assumes nothing.
-use Prim.Native.Nat.{◌-◌}
-use lib.ListN.{length}
+-- A turn passes a byte that is no digit, a digit that another follows, or the last digit of a number. The measure is the bytes left.
+use Rattle.std.proofs.Common.{◌-◌, length}
 use Rattle.text.proofs.NumberLaws.{Reading}
 use Rattle.text.proofs.parsing.read.Given as goal
 

@@ -1,12 +1,12 @@
 -- The two comparisons are the definition's.
 use Rattle.table.proofs.Tests.{tests}
-use Rattle.writing.specs.Writing.{givenOff}
+use Rattle.writing.specs.Writing.{given_off}
 use Rattle.writing.proofs.writer.given_off.Goals as goal
 
 pub returns-then-names-vessels : goal.returns-then-names-vessels
-unfolding givenOff
+unfolding given_off
 returns-then-names-vessels c = search tests
 
 pub returns : goal.returns
-unfolding givenOff
+unfolding given_off
 returns c = search tests

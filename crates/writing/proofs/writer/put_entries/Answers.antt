@@ -1,11 +1,10 @@
--- The movements left, put where they belong, make of the slice what all of them make of it at the start. The measure is the movements left.
-use borrow.Author.Rules.{rules}
-use Prim.Native.Nat.{◌-◌}
-use Rattle.writing.proofs.SheetPut.{entries-turn, entries-end}
+-- `writer::put_entries`: what its invariant leaves to show.
+use Rattle.std.proofs.Common.{rules, ◌-◌}
+use Rattle.writing.proofs.SheetPut.{entries_turn, entries_end}
 use Rattle.writing.proofs.writer.put_entries.Goals as goal
 
 pub loop-i-preserved : goal.loop-i-preserved
-loop-i-preserved c = (search rules, search rules, search (rules, entries-turn))
+loop-i-preserved c = (search rules, search rules, search (rules, entries_turn))
 
 pub returns : goal.returns
-returns c = search (rules, entries-end)
+returns c = search (rules, entries_end)
