@@ -5,7 +5,7 @@ use Rattle.std.proofs.Common.{◌≡◌, refl, sym, ◌∙◌, List, ℕ, zero, 
 use Rattle.table.specs.Pieces.{done}
 use Rattle.table.specs.Table.{places_of, flat}
 use Rattle.table.proofs.Pieces.{all_map}
-use Rattle.refusal.specs.Numbers.{first, ifZero}
+use Rattle.refusal.specs.Numbers.{first, if_zero}
 use Rattle.book.specs.declared.Head.{Head}
 use Rattle.book.specs.declared.Transfer.{Transfer}
 use Rattle.book.specs.Head.{Book, Sized, head_of, book_of, empty_head, opened, open_checks}
@@ -43,7 +43,7 @@ module _ (h : Head) (t : List ℕ) (k : Known h t) (x : Transfer) where
       let s = in_step (places_of t) h t (book_of h t) k.on k.sound (post x) in
       on_known (places_of t) _ _ _ s.holds s.sound (go (number (places_of t) (book_of h t) (post x)) refl)
     where
-      go : (n : ℕ) → number (places_of t) (book_of h t) (post x) ≡ n → SizedBook (ifZero n ((meaning (post x)).next (book_of h t)) (book_of h t))
+      go : (n : ℕ) → number (places_of t) (book_of h t) (post x) ≡ n → SizedBook (if_zero n ((meaning (post x)).next (book_of h t)) (book_of h t))
       go zero e = post_sized (places_of t) (book_of h t) x k.light e
       go (suc n) e = k.light
 

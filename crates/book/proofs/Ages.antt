@@ -10,7 +10,7 @@ use Rattle.table.specs.Pieces.{held}
 use Rattle.table.specs.Table.{pieces_of, flat, places_of}
 use Rattle.taking.specs.Selection.{precedes}
 use Rattle.taking.specs.Taking.{take_up_to, taken}
-use Rattle.refusal.specs.Numbers.{first, ifZero}
+use Rattle.refusal.specs.Numbers.{first, if_zero}
 use Rattle.refusal.proofs.Numbers.{first_append}
 use Rattle.book.specs.declared.Head.{Head}
 use Rattle.book.specs.declared.Transfer.{Transfer}
@@ -48,14 +48,14 @@ module _ (h : Head) (t : List ℕ) (s d m q : ℕ) (z : h.scale ≡ 0) where
   same_number =
       number_split h t (post (unaged s d m q))
       ∙ go book_number own_number
-      ∙ ap (λ (n : ℕ). ifZero n own n) same_book
+      ∙ ap (λ (n : ℕ). if_zero n own n) same_book
       ∙ sym (first_append (former_book_checks h t) ((former_meaning s d m q).checks (places_of t) (book_of h t)) tt)
     where
       own : ℕ
       own = first ((former_meaning s d m q).checks (places_of t) (book_of h t))
 
       go : (n : ℕ) → (n ≡ 0 → first ((meaning (post (unaged s d m q))).checks (places_of t) (book_of h t)) ≡ own)
-          → ifZero n (first ((meaning (post (unaged s d m q))).checks (places_of t) (book_of h t))) n ≡ ifZero n own n
+          → if_zero n (first ((meaning (post (unaged s d m q))).checks (places_of t) (book_of h t))) n ≡ if_zero n own n
       go zero f = f refl
       go (suc n) f = refl
 

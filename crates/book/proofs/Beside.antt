@@ -4,7 +4,7 @@
 use Rattle.std.proofs.Common.{◌≡◌, refl, sym, ap, ◌∙◌, subst, List, ℕ, zero, suc, ◌+◌, ◌≤◌, arith, T, length, le-ltb, ne_eqb}
 use Rattle.table.specs.Pieces.{sum, born_at, held}
 use Rattle.taking.proofs.Handed.{handed_births}
-use Rattle.refusal.specs.Numbers.{Check, first, ifZero}
+use Rattle.refusal.specs.Numbers.{Check, first, if_zero}
 use Rattle.refusal.proofs.Numbers.{named}
 use Rattle.book.specs.declared.Motion.{Motion}
 use Rattle.book.specs.Head.{Book, the_scale}
@@ -58,13 +58,13 @@ free_number places b m cs ok h =
     rw (number_of places b m cs ok, ne_eqb places 0 (λ z. omega arith), le-ltb places (length (pieces_after b b.rule m)) (omega (arith, after_count b b.rule m)))
     (go (first cs))
   where
-    go : (n : ℕ) → ifZero n 0 n ≡ n
+    go : (n : ℕ) → if_zero n 0 n ≡ n
     go zero = refl
     go (suc n) = refl
 
 -- the weigh book has the same number, and moves only where that is 0
 foretold : (places : ℕ) (b : Book) (w : WeighBook) (c : Call) → number places b c ≡ weigh_number w c → Foretells places b w c
-foretold places b w c e = record { same = λ ns. ap (λ n. listed c n ns) e; stays = λ n z. ap (λ m. ifZero m ((weighing c).next w) w) (sym e ∙ z) }
+foretold places b w c e = record { same = λ ns. ap (λ n. listed c n ns) e; stays = λ n z. ap (λ m. if_zero m ((weighing c).next w) w) (sym e ∙ z) }
 
 pub walks : (places : ℕ) (b : Book) (w : WeighBook) (c : Call) → Beside b w → Walks places b w c
 unfolding weigh_number number transfer_checks lift_checks

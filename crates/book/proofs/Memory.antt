@@ -5,7 +5,7 @@ use Rattle.std.proofs.Common.{◌≡◌, refl, sym, ◌∙◌, Bool, true, false
 use Rattle.table.specs.Pieces.{held}
 use Rattle.table.specs.Table.{places_of}
 use Rattle.table.proofs.Table.{pieces_flat}
-use Rattle.refusal.specs.Numbers.{first, ifZero}
+use Rattle.refusal.specs.Numbers.{first, if_zero}
 use Rattle.refusal.proofs.Numbers.{not_zero, first_zero, passed, first_append}
 use Rattle.book.specs.declared.Head.{Head}
 use Rattle.book.specs.Head.{Book, last_rule, most_vessels, the_scale, balances_of, head_of, book_of, adds_up}
@@ -81,7 +81,7 @@ refused_even h t c nz = go (number_of h t c) nz
 
 -- the number of a call: checks 1 and 4, then its own
 pub number_split : (h : Head) (t : List ℕ) (c : Call)
-    → number_of h t c ≡ ifZero (first (book_checks h t)) (first ((meaning c).checks (places_of t) (book_of h t))) (first (book_checks h t))
+    → number_of h t c ≡ if_zero (first (book_checks h t)) (first ((meaning c).checks (places_of t) (book_of h t))) (first (book_checks h t))
 unfolding number_of book_checks
 number_split h t c = first_append (book_checks h t) ((meaning c).checks (places_of t) (book_of h t)) tt
 
@@ -137,9 +137,9 @@ module _ (places : ℕ) (h : Head) (t : List ℕ) (b : Book) (on : On places h t
   -- a call in memory is the call on the book
   pub record InStep (c : Call) (n : ℕ) : Type 0 where
     pub number_is : (call_on h t c).number ≡ n
-    pub even_is : (call_on h t c).even ≡ ifZero n ((meaning c).even b) 0
-    pub holds : On places (call_on h t c).head (call_on h t c).table (ifZero n ((meaning c).next b) b)
-    pub sound : SoundBook places (ifZero n ((meaning c).next b) b)
+    pub even_is : (call_on h t c).even ≡ if_zero n ((meaning c).even b) 0
+    pub holds : On places (call_on h t c).head (call_on h t c).table (if_zero n ((meaning c).next b) b)
+    pub sound : SoundBook places (if_zero n ((meaning c).next b) b)
 
   pub in_step : (c : Call) → InStep c (number places b c)
   unfolding call_on

@@ -9,7 +9,7 @@ use Rattle.table.specs.Table.{flat, lay, places_of}
 use Rattle.table.proofs.Table.{length_flat, quad_is, places_fit}
 use Rattle.taking.proofs.Taking.{Law, taken_law}
 use Rattle.taking.proofs.Handed.{handed_length, handed_held, handed_all}
-use Rattle.refusal.specs.Numbers.{TOP, Check, ◌if◌, or_else, first, ifZero}
+use Rattle.refusal.specs.Numbers.{TOP, Check, ◌if◌, or_else, first, if_zero}
 use Rattle.refusal.proofs.Numbers.{named, past, first_append}
 use Rattle.book.specs.declared.Transfer.{Transfer}
 use Rattle.book.specs.declared.Lift.{Lift}
@@ -82,7 +82,7 @@ module _ (b : Book) (rule : ℕ) (m : Motion) where
   pub after_count : length (pieces_after b rule m) + even_of (answer_of (takes b rule m)) ≡ suc (length b.pieces)
   after_count = go ((takes b rule m).split + (takes b rule m).born) refl
     where
-      go : (n : ℕ) → (takes b rule m).split + (takes b rule m).born ≡ n → length (pieces_after b rule m) + ifZero n 1 0 ≡ suc (length b.pieces)
+      go : (n : ℕ) → (takes b rule m).split + (takes b rule m).born ≡ n → length (pieces_after b rule m) + if_zero n 1 0 ≡ suc (length b.pieces)
       go zero e = omega (arith, after_length, takes_law.one_more)
       go (suc n) e = omega (arith, after_length, takes_law.one_more)
 
@@ -143,13 +143,13 @@ module _ (places : ℕ) (b : Book) (m : Motion) (cs : List Check) (ok : T (named
   abbrev pub taking_number : ℕ
   taking_number = first (1 if eqb places 0 ∷ (cs ++ (11 if ltb places (length after) ∷ [])))
 
-  pub number_of : taking_number ≡ or_else (1 if eqb places 0) (ifZero (first cs) (or_else (11 if ltb places (length after)) 0) (first cs))
+  pub number_of : taking_number ≡ or_else (1 if eqb places 0) (if_zero (first cs) (or_else (11 if ltb places (length after)) 0) (first cs))
   number_of = ap (or_else (1 if eqb places 0)) (first_append cs (11 if ltb places (length after) ∷ []) ok)
 
   pub accepted_number : taking_number ≡ 0 → (first cs ≡ 0) × (length after ≤ places)
   accepted_number h = go (eqb places 0) (first cs) (ltb places (length after)) refl (sym number_of ∙ h)
     where
-      go : (z : Bool) (n : ℕ) (t : Bool) → ltb places (length after) ≡ t → or_else (1 if z) (ifZero n (or_else (11 if t) 0) n) ≡ 0 → (n ≡ 0) × (length after ≤ places)
+      go : (z : Bool) (n : ℕ) (t : Bool) → ltb places (length after) ≡ t → or_else (1 if z) (if_zero n (or_else (11 if t) 0) n) ≡ 0 → (n ≡ 0) × (length after ≤ places)
       go true n t u e = absurd (omega arith)
       go false zero true u e = absurd (omega arith)
       go false zero false u e = (refl, ltb-false _ _ u)

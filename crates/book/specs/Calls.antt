@@ -4,7 +4,7 @@ use Rattle.std.specs.Prelude.{List, [], ◌∷◌, ◌++◌, ℕ, ◌+◌, ltb, 
 use Rattle.table.specs.Pieces.{held}
 use Rattle.table.specs.Table.{lay}
 use Rattle.taking.specs.Taking.{Taken}
-use Rattle.refusal.specs.Numbers.{Check, ◌if◌, ifZero}
+use Rattle.refusal.specs.Numbers.{Check, ◌if◌, if_zero}
 use Rattle.book.specs.declared.Transfer.{Transfer}
 use Rattle.book.specs.declared.Lift.{Lift}
 use Rattle.book.specs.declared.Tip.{Tip}
@@ -37,7 +37,7 @@ answer_of r = record { whole = r.whole; split = r.split; born = r.born }
 
 -- "An accepted transfer without split or birth is even."
 abbrev pub even_of : Answer → ℕ
-even_of a = ifZero (a.split + a.born) 1 0
+even_of a = if_zero (a.split + a.born) 1 0
 
 -- What a call means, on any book.
 pub record Meaning : Type 0 where

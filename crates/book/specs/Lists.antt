@@ -3,7 +3,7 @@
 use Rattle.std.specs.Prelude.{◌≡◌, true, List, [], ◌∷◌, ℕ, ◌+◌, ◌≤◌, length}
 use Rattle.table.specs.Pieces.{sum, born_at, held}
 use Rattle.table.specs.Table.{places_of}
-use Rattle.refusal.specs.Numbers.{ifZero}
+use Rattle.refusal.specs.Numbers.{if_zero}
 use Rattle.book.specs.declared.Head.{Head}
 use Rattle.book.specs.Head.{Book, book_of, adds_up, opened}
 use Rattle.book.specs.Calls.{Call, post, lift, tip, ask, meaning}
@@ -32,7 +32,7 @@ calls_on h t (c ∷ cs) = let o = call_on h t c in noted c o (calls_on o.head o.
 -- the calls answered 0
 abbrev pub answered : List Entry → List Call
 answered [] = []
-answered (e ∷ es) = ifZero e.number (e.asked ∷ answered es) (answered es)
+answered (e ∷ es) = if_zero e.number (e.asked ∷ answered es) (answered es)
 
 -- "Followed in turn": each of these calls does to the book what is said of it.
 unfoldable pub follow : Book → List Call → Book

@@ -2,7 +2,7 @@
 -- Definitions only. Assumes nothing.
 use Rattle.std.specs.Prelude.{Bool, true, false, ◌&&◌, cond, List, [], ◌∷◌, ℕ, ◌+◌, ◌-◌, eqb}
 use Rattle.table.specs.Pieces.{only}
-use Rattle.refusal.specs.Numbers.{Check, first, ifZero}
+use Rattle.refusal.specs.Numbers.{Check, first, if_zero}
 use Rattle.book.specs.declared.Motion.{Motion}
 use Rattle.book.specs.Head.{the_scale}
 use Rattle.book.specs.Motion.{Standing}
@@ -58,7 +58,7 @@ unfoldable pub weigh_number : WeighBook → Call → ℕ
 weigh_number w c = first ((weighing c).checks w)
 
 abbrev pub weigh_step : WeighBook → Call → WeighBook
-weigh_step w c = ifZero (weigh_number w c) ((weighing c).next w) w
+weigh_step w c = if_zero (weigh_number w c) ((weighing c).next w) w
 
 -- fed with calls in turn
 unfoldable pub feed : WeighBook → List Call → WeighBook

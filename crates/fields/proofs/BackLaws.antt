@@ -1,5 +1,6 @@
 -- Laws of there and back: a number and a movement through their bytes, and bytes through what they hold. Assumes nothing.
-use Rattle.std.proofs.Common.{ℕ, zero, suc, ◌+◌, ◌*◌, ◌/◌, ◌%◌, ◌^◌, ◌<◌, ◌≤◌, arith, ◌≡◌, refl, ap, ap₂, ◌∙◌, List, [], ◌∷◌, ◌++◌, append_assoc, flat_map, length, get_or, drop, length-drop, get_or-drop, drop-drop}
+use mathlib.Core.List.{flat_map}
+use Rattle.std.proofs.Common.{ℕ, zero, suc, ◌+◌, ◌*◌, ◌/◌, ◌%◌, ◌^◌, ◌<◌, ◌≤◌, arith, ◌≡◌, refl, ap, ap₂, ◌∙◌, List, [], ◌∷◌, ◌++◌, append_assoc, length, get_or, drop, length-drop, get_or-drop, drop-drop}
 use native.Mathlib.Nat.{pow-zero, pow-succ'}
 use Rattle.book.specs.Transfer.{most_age}
 use Rattle.fields.specs.declared.entries.Entry.{Entry}

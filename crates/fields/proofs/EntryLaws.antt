@@ -1,7 +1,7 @@
 -- Laws of movements: what the reads and the numbers given make, the scan for a movement that fails a check, and what passed checks tell.
 -- Assumes nothing.
 use Rattle.std.proofs.Common.{ℕ, zero, suc, ◌+◌, ◌*◌, ◌<◌, ◌≤◌, add-zero, Bool, false, ◌≡◌, refl, sym, ◌∙◌, List, [], ◌∷◌, ◌++◌, length, get_or, drop, drop_of_length-le, get_or-drop, drop-drop, leb-false, ltb-false, lt-ltb, le-ltb, T, leb, ltb, arith}
-use Rattle.refusal.specs.Numbers.{Check, ◌if◌, first, ifZero}
+use Rattle.refusal.specs.Numbers.{Check, ◌if◌, first, if_zero}
 use Rattle.refusal.proofs.Numbers.{named, passed, first_append, not_zero, passed_first, passed_second, neither, named_append, refuses_less, alike_behind}
 use Rattle.book.specs.Transfer.{most_age}
 use Rattle.fields.specs.declared.entries.Entry.{Entry}
@@ -39,7 +39,7 @@ module _ (checks : Entry → List Check) (ok : (e : Entry) → T (named (checks 
 
   -- those of the movements left, from one on
   next_check : (e : Entry) (es : List Entry)
-      → first (entries_checks checks (e ∷ es)) ≡ ifZero (first (checks e)) (first (entries_checks checks es)) (first (checks e))
+      → first (entries_checks checks (e ∷ es)) ≡ if_zero (first (checks e)) (first (entries_checks checks es)) (first (checks e))
   unfolding entries_checks
   next_check e es = first_append (checks e) (entries_checks checks es) (ok e)
 
@@ -61,7 +61,7 @@ module _ (checks : Entry → List Check) (size : ℕ) (f : List ℕ → Entry) (
 
   module _ (i : ℕ) (s : Checked checks size f count l i) where
     module _ (ok : (e : Entry) → T (named (checks e))) (h : i < count) (e : Entry) (is : e ≡ f (drop (size * i) l)) (n : ℕ) (says : n ≡ first (checks e)) where
-      one : ifZero n (first (entries_checks checks (drop (i + 1) (groups size f count l)))) n ≡ first (entries_checks checks (groups size f count l))
+      one : if_zero n (first (entries_checks checks (drop (i + 1) (groups size f count l)))) n ≡ first (entries_checks checks (groups size f count l))
       one = rw (says, is, ← group_at size f count l i no_entry h) (rw (next_group size f count l i no_entry h, next_check checks ok) at s.left)
 
       pub check_turn : n ≡ 0 → Checked checks size f count l (i + 1)

@@ -1,5 +1,6 @@
 -- Laws of bytes put one behind the other: two runs of stores are one, and a turn of each loop that puts bytes. Assumes nothing.
-use Rattle.std.proofs.Common.{ℕ, zero, suc, ◌+◌, ◌*◌, ◌<◌, ◌≤◌, add-zero, add-suc, suc-add, add_assoc, mul-suc, add-one, arith, ◌≡◌, refl, sym, ap, ◌∙◌, List, [], ◌∷◌, ◌++◌, append_assoc, flat_map, length, get_or, drop, set, drop_of_length-le, drop-cons}
+use mathlib.Core.List.{flat_map}
+use Rattle.std.proofs.Common.{ℕ, zero, suc, ◌+◌, ◌*◌, ◌<◌, ◌≤◌, add-zero, add-suc, suc-add, add_assoc, mul-suc, add-one, arith, ◌≡◌, refl, sym, ap, ◌∙◌, List, [], ◌∷◌, ◌++◌, append_assoc, length, get_or, drop, set, drop_of_length-le, drop-cons}
 use lib.Seq.{sets}
 use Rattle.fields.specs.Bytes.{bytes_of, groups}
 use Rattle.fields.proofs.GroupLaws.{group_at, next_group, length_groups}

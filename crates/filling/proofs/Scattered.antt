@@ -121,9 +121,9 @@ module _ (test : Piece → Bool) (at : Piece → ℕ) where
         omega arith
 
   -- what entering the piece at place i asks
-  pub fill-requires : (n i : ℕ) (t r r₀ : List ℕ) (p : Piece) → i < n → p ≡ get_or (pieces_of n t) i no_piece → length r ≡ length r₀ → Fillable test at r₀ (pieces_of n t)
+  pub may_enter : (n i : ℕ) (t r r₀ : List ℕ) (p : Piece) → i < n → p ≡ get_or (pieces_of n t) i no_piece → length r ≡ length r₀ → Fillable test at r₀ (pieces_of n t)
       → scatter test at r (drop i (pieces_of n t)) ≡ scatter test at r₀ (pieces_of n t) → Enterable test at r p
-  fill-requires n i t r r₀ p h ep l f e =
+  may_enter n i t r r₀ p h ep l f e =
       let u = all_at f i (rw length_pieces h) in
       let k : at p < length r = rw (l, ep) u.0 in
       (k, scatter_bound n i t r _ e h p ep (at p) k (rw ep u.1))

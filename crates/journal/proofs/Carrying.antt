@@ -3,7 +3,7 @@
 -- Assumes nothing.
 use Rattle.std.proofs.Common.{◌≡◌, refl, sym, ap, ◌∙◌, Bool, true, false, cond, List, [], ◌∷◌, ◌++◌, append_assoc, append-nil, ℕ, zero, suc, ◌+◌, ◌-◌, ◌*◌, ◌≤◌, ◌<◌, add-one, arith, length, get_or, set, take, drop, length-set, take-append-drop, drop-drop, take-suc-set, drop-set-lt, ne_eqb}
 use native.Mathlib.Nat.{sub-zero}
-use Rattle.refusal.specs.Numbers.{◌if◌, first, ifZero}
+use Rattle.refusal.specs.Numbers.{◌if◌, first, if_zero}
 use Rattle.refusal.proofs.Numbers.{not_zero, first_append}
 use Rattle.book.specs.declared.Head.{Head}
 use Rattle.book.specs.declared.Opened.{Opened}
@@ -155,11 +155,11 @@ journal_is (suc n) l h t r =
 -- `carry_out`, at its returns
 module _ (rule size : ℕ) (l t a r : List ℕ) (o : Opened) (eo : o ≡ opening rule size) where
   -- its number, by that of opening
-  number_parts : carry_number rule size l a ≡ ifZero o.number (cond (ages_off (count_calls l a) l) 18 0) o.number
+  number_parts : carry_number rule size l a ≡ if_zero o.number (cond (ages_off (count_calls l a) l) 18 0) o.number
   unfolding carry_number opening
   number_parts = first_append (open_checks rule size) (18 if ages_off (count_calls l a) l ∷ []) tt ∙ rw eo (go (first (open_checks rule size)) (ages_off (count_calls l a) l))
     where
-      go : (n : ℕ) (off : Bool) → ifZero n (first (18 if off ∷ [])) n ≡ ifZero (opens rule size n).number (cond off 18 0) (opens rule size n).number
+      go : (n : ℕ) (off : Bool) → if_zero n (first (18 if off ∷ [])) n ≡ if_zero (opens rule size n).number (cond off 18 0) (opens rule size n).number
       go zero true = refl
       go zero false = refl
       go (suc n) off = refl

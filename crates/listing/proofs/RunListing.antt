@@ -1,7 +1,7 @@
 -- THE LISTING OF A SHEET: a run refused by its sheet or by 1 prints only `refused N`, and every other the lines of its book. A run's
 -- pieces lie within its table, so that there is room for every listing. Assumes nothing.
 use Rattle.std.proofs.Common.{◌≡◌, refl, sym, List, ℕ, zero, suc, ◌*◌, ◌≤◌, arith, length}
-use Rattle.refusal.specs.Numbers.{ifZero}
+use Rattle.refusal.specs.Numbers.{if_zero}
 use Rattle.refusal.proofs.Numbers.{not_zero}
 use Rattle.table.specs.Table.{most_places, pieces_of, places_of}
 use Rattle.table.proofs.Table.{places_fit}
@@ -38,12 +38,12 @@ module _ (s t : List ℕ) where
       }
       go (suc n) e = rw (refused_run s t n e) (record { pieces_lie = omega arith; few = omega arith })
 
-  pub listing_theorem : sheet_listing s t ≡ ifZero (run_number s t) (book_text (running s t).answer (pieces_of (running s t).answer.head.pieces (running s t).table)) (refused_line (run_number s t))
+  pub listing_theorem : sheet_listing s t ≡ if_zero (run_number s t) (book_text (running s t).answer (pieces_of (running s t).answer.head.pieces (running s t).table)) (refused_line (run_number s t))
   unfolding listing_text
   listing_theorem = go (run_number s t) refl
     where
       go : (n : ℕ) → run_number s t ≡ n
-          → sheet_listing s t ≡ ifZero n (book_text (running s t).answer (pieces_of (running s t).answer.head.pieces (running s t).table)) (refused_line n)
+          → sheet_listing s t ≡ if_zero n (book_text (running s t).answer (pieces_of (running s t).answer.head.pieces (running s t).table)) (refused_line n)
       go zero e = sym (not_zero (running s t).answer.head.vessels _ _ (λ z. omega (arith, (adds e).some_vessel)))
       go (suc n) e = rw (refused_run s t n e)
 

@@ -2,7 +2,7 @@
 -- `stopped I at N` (index, refusal number); a run refused by its sheet or by 1 prints only `refused N`."
 -- Every line ends with one newline. Definitions only. Assumes nothing.
 use Rattle.std.specs.Prelude.{List, [], ◌∷◌, ◌++◌, ◌≡◌, ℕ, ◌+◌, ◌*◌, ◌≤◌, length, drop}
-use Rattle.refusal.specs.Numbers.{ifZero}
+use Rattle.refusal.specs.Numbers.{if_zero}
 use Rattle.table.specs.declared.Piece.{Piece}
 use Rattle.table.specs.Table.{most_places, pieces_of}
 use Rattle.book.specs.declared.Head.{Head}
@@ -35,7 +35,7 @@ refused_line number = word refused_word number ++ newline
 
 -- the last line of a stopped run
 abbrev pub last_line : ℕ → ℕ → List ℕ
-last_line index number = ifZero number [] (stopped_line index number)
+last_line index number = if_zero number [] (stopped_line index number)
 
 -- what a run prints that ended with a book of these pieces
 unfoldable pub book_text : Ran → List Piece → List ℕ
@@ -44,7 +44,7 @@ book_text r ps = first_line r.head r.even ++ piece_lines ps ++ last_line r.index
 -- What a run prints. A run refused by its sheet or by 1 has a head of zeros, and a book has a vessel at least: so a head without
 -- vessels tells that the run was refused.
 unfoldable pub listing_text : Ran → List Piece → List ℕ
-listing_text r ps = ifZero r.head.vessels (refused_line r.number) (book_text r ps)
+listing_text r ps = if_zero r.head.vessels (refused_line r.number) (book_text r ps)
 
 -- the listing of a run that left this table
 abbrev pub listing_of : Ran → List ℕ → List ℕ

@@ -7,7 +7,7 @@ use Rattle.table.specs.Table.{pieces_of, places_of}
 use Rattle.table.proofs.Pieces.{all_map}
 use Rattle.taking.specs.Taking.{taken}
 use Rattle.moving.specs.Applied.{full, applied, table_left}
-use Rattle.refusal.specs.Numbers.{Check, ◌if◌, first, ifZero}
+use Rattle.refusal.specs.Numbers.{Check, ◌if◌, first, if_zero}
 use Rattle.refusal.proofs.Numbers.{named, not_zero, first_append}
 use Rattle.book.specs.declared.Head.{Head}
 use Rattle.book.specs.declared.Transfer.{Transfer}
@@ -67,11 +67,11 @@ module _ (h : Head) (t : List ℕ) (w : Audited h t) where
     abbrev full_now : Bool
     full_now = full (places_of t) m.moves (taken h.rule m.moves b.pieces)
 
-    number_parts : number_of h t c ≡ ifZero (first (checks (of_book b))) (cond full_now 11 0) (first (checks (of_book b)))
+    number_parts : number_of h t c ≡ if_zero (first (checks (of_book b))) (cond full_now 11 0) (first (checks (of_book b)))
     unfolding takes
     number_parts = number_is c ∙ rw is (first_append (checks (of_book b)) (11 if full_now ∷ []) ok ∙ go (first (checks (of_book b))) full_now)
       where
-        go : (n : ℕ) (f : Bool) → ifZero n (first (11 if f ∷ [])) n ≡ ifZero n (cond f 11 0) n
+        go : (n : ℕ) (f : Bool) → if_zero n (first (11 if f ∷ [])) n ≡ if_zero n (cond f 11 0) n
         go zero true = refl
         go zero false = refl
         go (suc n) f = refl

@@ -4,7 +4,7 @@
 use Rattle.std.proofs.Common.{◌≡◌, refl, sym, ◌∙◌, Bool, true, false, not, ◌&&◌, ◌||◌, List, [], ◌∷◌, ◌++◌, ℕ, zero, suc, arith, T, eqb, eqb-true, eq-eqb}
 use mathlib.Mathlib.Data.Bool.Basic.{or-eq-false-eq-eq-false-and-eq-false}
 use borrow.Author.Tests.{not-false}
-use Rattle.refusal.specs.Numbers.{Check, ◌if◌, first, ifZero}
+use Rattle.refusal.specs.Numbers.{Check, ◌if◌, first, if_zero}
 
 -- both tests are false where neither is true
 pub neither : (a b : Bool) → (a || b) ≡ false → (a ≡ false) × (b ≡ false)
@@ -15,12 +15,12 @@ pub same_if : (a b : ℕ) → not (eqb a b) ≡ false → a ≡ b
 same_if a b e = eqb-true a b (not-false (eqb a b) e)
 
 -- what is given where a number is not 0
-pub not_zero : {A : Type 0} (n : ℕ) (a b : A) → (n ≡ 0 → ⊥) → b ≡ ifZero n a b
+pub not_zero : {A : Type 0} (n : ℕ) (a b : A) → (n ≡ 0 → ⊥) → b ≡ if_zero n a b
 not_zero zero a b h = absurd (h refl)
 not_zero (suc n) a b h = refl
 
 -- a first number that is 0 where the answer is
-pub first_zero : (n k : ℕ) → ifZero n k n ≡ 0 → n ≡ 0
+pub first_zero : (n k : ℕ) → if_zero n k n ≡ 0 → n ≡ 0
 first_zero zero k e = refl
 first_zero (suc n) k e = e
 
@@ -41,7 +41,7 @@ passed ((zero if t) ∷ cs) h e = absurd h
 passed ((suc n if true) ∷ cs) h e = absurd (omega arith)
 passed ((suc n if false) ∷ cs) h e = (refl, passed cs h e)
 
-pub first_append : (cs ds : List Check) → T (named cs) → first (cs ++ ds) ≡ ifZero (first cs) (first ds) (first cs)
+pub first_append : (cs ds : List Check) → T (named cs) → first (cs ++ ds) ≡ if_zero (first cs) (first ds) (first cs)
 first_append [] ds h = refl
 first_append ((zero if t) ∷ cs) ds h = absurd h
 first_append ((suc n if true) ∷ cs) ds h = refl

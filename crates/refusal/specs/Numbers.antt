@@ -28,6 +28,6 @@ first [] = 0
 first (c ∷ cs) = or_else c (first cs)
 
 -- What is given where the number is 0, and what else.
-abbrev pub ifZero {ℓ} : {A : Type ℓ} → ℕ → A → A → A
-ifZero zero a b = a
-ifZero (suc n) a b = b
+abbrev pub if_zero {ℓ} : {A : Type ℓ} → ℕ → A → A → A
+if_zero zero a b = a
+if_zero (suc n) a b = b

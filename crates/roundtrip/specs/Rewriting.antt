@@ -1,6 +1,6 @@
 -- Writing a sheet again that was read. Definitions only. Assumes nothing.
 use Rattle.std.specs.Prelude.{List, [], ◌∷◌, ◌++◌, ℕ, ◌*◌, ltb, length, take, drop}
-use Rattle.refusal.specs.Numbers.{◌if◌, ifZero}
+use Rattle.refusal.specs.Numbers.{◌if◌, if_zero}
 use Rattle.fields.specs.Movements.{numbers_in}
 use Rattle.fields.specs.Layout.{header_size, name_size}
 use Rattle.sheet.specs.declared.answer.Movement.{Movement}
@@ -22,4 +22,4 @@ abbrev pub rewrite_number : List ℕ → ℕ → ℕ
 rewrite_number s room = asked_number s (19 if ltb room (length s))
 
 abbrev pub rewritten : List ℕ → List ℕ → List ℕ
-rewritten s out = ifZero (rewrite_number s (length out)) (s ++ drop (length s) out) out
+rewritten s out = if_zero (rewrite_number s (length out)) (s ++ drop (length s) out) out

@@ -1,7 +1,7 @@
 -- The run, by what is left: the book is known to add up at every movement, and going on from here ends as going on from the start does.
 -- Assumes nothing.
 use Rattle.std.proofs.Common.{◌≡◌, refl, sym, ap, ◌∙◌, List, ◌∷◌, ℕ, zero, suc, ◌+◌, ◌*◌, ◌≤◌, ◌<◌, add-one, arith, length, drop, drop_of_length-le, drop-drop, lt-ltb, le-ltb}
-use Rattle.refusal.specs.Numbers.{first, ifZero}
+use Rattle.refusal.specs.Numbers.{first, if_zero}
 use Rattle.refusal.proofs.Numbers.{not_zero}
 use Rattle.table.specs.Table.{most_places}
 use Rattle.moving.specs.Applied.{lifted_places}
@@ -89,7 +89,7 @@ module _ (s : List ℕ) (m : ℕ) (h₀ : Head) (t₀ k₀ p₀ l₀ : List ℕ)
         go (suc n) u nn = record { answer_is = rw u; table_is = posts.table ∙ (refused_memory h t (post (transfer_at s i)) (λ v. nz (same_number ∙ v))).1 }
 
     -- it is accepted, and the run goes on
-    module _ (z : made.number ≡ 0) (one : ℕ) (eo : (one ≡ ifZero (made.split + made.born) 1 0) × (one ≤ 1)) where
+    module _ (z : made.number ≡ 0) (one : ℕ) (eo : (one ≡ if_zero (made.split + made.born) 1 0) × (one ≤ 1)) where
       pub going_counts : even + one ≤ m
       going_counts = omega (arith, g.some_even, eo.1)
 
@@ -100,7 +100,7 @@ module _ (s : List ℕ) (m : ℕ) (h₀ : Head) (t₀ k₀ p₀ l₀ : List ℕ)
           let u = known_after h t known (transfer_at s i) in
           let v = length_after h t known (transfer_at s i) in
           let n : o.number ≡ 0 = sym same_number ∙ z in
-          let es : one ≡ o.even = eo.0 ∙ ap (λ (z : Transferred). ifZero (z.split + z.born) 1 0) posts.answer ∙ sym (even_said h t (transfer_at s i) n) in
+          let es : one ≡ o.even = eo.0 ∙ ap (λ (z : Transferred). if_zero (z.split + z.born) 1 0) posts.answer ∙ sym (even_said h t (transfer_at s i) n) in
           record {
             inside = omega arith;
             some_even = omega (arith, g.some_even, eo.1);
@@ -147,13 +147,13 @@ made_as h t s i m z t' e p = rw e at p
 
 -- whether it was even
 module _ (split born : ℕ) where
-  pub even_not_split : (split ≡ 0 → ⊥) → ◌≡◌ {A = ℕ} 0 (ifZero (split + born) 1 0)
+  pub even_not_split : (split ≡ 0 → ⊥) → ◌≡◌ {A = ℕ} 0 (if_zero (split + born) 1 0)
   even_not_split h = not_zero (split + born) 1 0 (λ e. h (omega arith))
 
-  pub even_not_born : (born ≡ 0 → ⊥) → ◌≡◌ {A = ℕ} 0 (ifZero (split + born) 1 0)
+  pub even_not_born : (born ≡ 0 → ⊥) → ◌≡◌ {A = ℕ} 0 (if_zero (split + born) 1 0)
   even_not_born h = not_zero (split + born) 1 0 (λ e. h (omega arith))
 
-  pub even_is : split ≡ 0 → born ≡ 0 → ◌≡◌ {A = ℕ} 1 (ifZero (split + born) 1 0)
+  pub even_is : split ≡ 0 → born ≡ 0 → ◌≡◌ {A = ℕ} 1 (if_zero (split + born) 1 0)
   even_is a b = let z : split + born ≡ 0 = omega arith in rw z
 
 -- an opening that is not refused gives the fresh head
@@ -174,7 +174,7 @@ module _ (s t : List ℕ) (r : Reading) (er : r ≡ reading s) where
   read_number_lem : read_number s ≡ r.number
   read_number_lem = sym (ap (λ (x : Reading). x.number) er ∙ go (read_number s))
     where
-      go : (n : ℕ) → (ifZero n (header_of s) (refused_reading n)).number ≡ n
+      go : (n : ℕ) → (if_zero n (header_of s) (refused_reading n)).number ≡ n
       go zero = refl
       go (suc n) = refl
 
@@ -183,7 +183,7 @@ module _ (s t : List ℕ) (r : Reading) (er : r ≡ reading s) where
   not_run n z e nz ez = rw e (go n nz ez)
     where
       go : (n : ℕ) → (n ≡ 0 → ⊥) → z ≡ record { number = n; index = 0; even = 0; head = empty_head 0 0 }
-          → Gives (ifZero n (run_from 0 0 (opening (rule_of s) (vessels_of s)).head t (transfers_of s)) (ended n 0 0 (empty_head 0 0) t)) t z
+          → Gives (if_zero n (run_from 0 0 (opening (rule_of s) (vessels_of s)).head t (transfers_of s)) (ended n 0 0 (empty_head 0 0) t)) t z
       go zero nz ez = absurd (nz refl)
       go (suc n) nz ez = record { answer_is = ez; table_is = refl }
 

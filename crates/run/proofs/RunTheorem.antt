@@ -3,7 +3,7 @@
 -- sheet knows no lift (`run_bare`).
 -- Assumes nothing.
 use Rattle.std.proofs.Common.{◌≡◌, refl, sym, ap, ◌∙◌, List, [], ◌∷◌, ◌++◌, map, ℕ, zero, suc, ◌+◌, ◌-◌, ◌≤◌, arith, length, take, replicate}
-use Rattle.refusal.specs.Numbers.{first, ifZero}
+use Rattle.refusal.specs.Numbers.{first, if_zero}
 use Rattle.refusal.proofs.Numbers.{first_zero}
 use Rattle.book.specs.declared.Head.{Head}
 use Rattle.book.specs.declared.Transfer.{Transfer}
@@ -26,12 +26,12 @@ calls_from n xs = map post (take n xs)
 -- A run from index i on, against the journal of its transfers tried: so many are accepted, and then one is refused or none is left.
 pub record Folds (i even : ℕ) (h : Head) (t : List ℕ) (xs : List Transfer) (r : Running) : Type 0 where
   pub tried : ℕ
-  pub index_is : r.answer.index + ifZero r.answer.number 0 1 ≡ i + tried
+  pub index_is : r.answer.index + if_zero r.answer.number 0 1 ≡ i + tried
   pub head_is : r.answer.head ≡ (calls_on h t (calls_from tried xs)).head
   pub table_is : r.table ≡ (calls_on h t (calls_from tried xs)).table
   pub even_is : r.answer.even ≡ even + evens (calls_on h t (calls_from tried xs)).log
   -- every number but the last is 0, and the last is the run's
-  pub numbers_are : numbers (calls_on h t (calls_from tried xs)).log ≡ replicate (r.answer.index - i) 0 ++ ifZero r.answer.number [] (r.answer.number ∷ [])
+  pub numbers_are : numbers (calls_on h t (calls_from tried xs)).log ≡ replicate (r.answer.index - i) 0 ++ if_zero r.answer.number [] (r.answer.number ∷ [])
   pub onward : i ≤ r.answer.index
   pub all_made : r.answer.number ≡ 0 → tried ≡ length xs
 

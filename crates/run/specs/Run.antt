@@ -2,7 +2,7 @@
 -- index from 0 (M if all passed), and the even count. It stops with the head and table after the last accepted one."
 -- Definitions only. Assumes nothing.
 use Rattle.std.specs.Prelude.{◌≡◌, List, [], ◌∷◌, ℕ, zero, suc, ◌+◌, ◌*◌, ◌≤◌, ltb, length, drop}
-use Rattle.refusal.specs.Numbers.{◌if◌, first, ifZero}
+use Rattle.refusal.specs.Numbers.{◌if◌, first, if_zero}
 use Rattle.book.specs.declared.Head.{Head}
 use Rattle.book.specs.declared.Transfer.{Transfer}
 use Rattle.book.specs.Head.{empty_head, opening}
@@ -53,11 +53,11 @@ run_from i even h t (x ∷ xs) =
 
 -- The number of a run that is refused by its sheet or by 1: "a head of zeros".
 unfoldable pub run_number : List ℕ → List ℕ → ℕ
-run_number s t = ifZero (read_number s) (first (1 if ltb (length t) 4 ∷ [])) (read_number s)
+run_number s t = if_zero (read_number s) (first (1 if ltb (length t) 4 ∷ [])) (read_number s)
 
 unfoldable pub running : List ℕ → List ℕ → Running
 running s t =
-    ifZero (run_number s t) (run_from 0 0 (opening (rule_of s) (vessels_of s)).head t (transfers_of s)) (ended (run_number s t) 0 0 (empty_head 0 0) t)
+    if_zero (run_number s t) (run_from 0 0 (opening (rule_of s) (vessels_of s)).head t (transfers_of s)) (ended (run_number s t) 0 0 (empty_head 0 0) t)
 
 -- What making all movements asks: the sheet reads well and has so many, and the book is known to add up.
 pub record Runnable (s : List ℕ) (m : ℕ) (h : Head) (t keys spare lifted : List ℕ) : Type 0 where

@@ -2,7 +2,7 @@
 #![tactic(auto)]
 
 ghost use Rattle.std.specs.Prelude.{◌≡◌, ◌<◌, ◌≤◌, ◌+◌};
-ghost use Rattle.refusal.specs.Numbers.{ifZero};
+ghost use Rattle.refusal.specs.Numbers.{if_zero};
 ghost use Rattle.book.specs.Head.{empty_head};
 ghost use Rattle.book.specs.Calls.{post};
 ghost use Rattle.carrying.specs.Carrying.{Workable};
@@ -36,7 +36,7 @@ fn refused(number: u32) -> Ran
 
 // 1 for a transfer without split or birth.
 fn count_even(made: Transferred) -> u32
-    ensures { (result ≡ ifZero (made.split + made.born) 1 0) × (result ≤ 1) }
+    ensures { (result ≡ if_zero (made.split + made.born) 1 0) × (result ≤ 1) }
 {
     if made.split != 0 {
         return 0;

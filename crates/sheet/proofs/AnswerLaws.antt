@@ -3,7 +3,7 @@
 use Rattle.std.proofs.Common.{ℕ, zero, suc, ◌+◌, ◌*◌, ◌-◌, ◌<◌, ◌≤◌, arith, ◌≡◌, refl, sym, ap, ◌∙◌, List, [], ◌∷◌, leb-false, le-leb, leb, get_or, length, take, drop, length-take, take-take, drop-drop}
 use native.Mathlib.Nat.{add-sub_cancel_left}
 use borrow.Author.Tests.{lt-leb}
-use Rattle.refusal.specs.Numbers.{Check, ◌if◌, first, ifZero}
+use Rattle.refusal.specs.Numbers.{Check, ◌if◌, first, if_zero}
 use Rattle.refusal.proofs.Numbers.{passed, not_zero, first_zero}
 use Rattle.sheet.specs.declared.answer.Reading.{Reading}
 use Rattle.sheet.specs.declared.answer.Movement.{Movement}
@@ -36,7 +36,7 @@ module _ (s : List ℕ) (r : Reading) (e : r ≡ reading s) where
   pub read_number_lem : r.number ≡ read_number s
   read_number_lem = ap (λ (x : Reading). x.number) e ∙ go (read_number s)
     where
-      go : (n : ℕ) → (ifZero n (header_of s) (refused_reading n)).number ≡ n
+      go : (n : ℕ) → (if_zero n (header_of s) (refused_reading n)).number ≡ n
       go zero = refl
       go (suc n) = refl
 

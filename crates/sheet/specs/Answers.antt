@@ -1,6 +1,6 @@
 -- What reading a sheet, asking for a movement and asking for a name give. Definitions only. Assumes nothing.
 use Rattle.std.specs.Prelude.{List, [], ◌∷◌, ◌≡◌, ℕ, ◌+◌, ◌*◌, leb, take, drop}
-use Rattle.refusal.specs.Numbers.{Check, ◌if◌, first, ifZero}
+use Rattle.refusal.specs.Numbers.{Check, ◌if◌, first, if_zero}
 use Rattle.sheet.specs.declared.answer.Reading.{Reading}
 use Rattle.sheet.specs.declared.answer.Movement.{Movement}
 use Rattle.fields.specs.declared.entries.Entry.{Entry}
@@ -17,7 +17,7 @@ refused_reading n = record { number = n; rule = 0; vessels = 0; movements = 0 }
 
 -- "Reading a sheet yields rule, V and M".
 abbrev pub reading : List ℕ → Reading
-reading s = ifZero (read_number s) (header_of s) (refused_reading (read_number s))
+reading s = if_zero (read_number s) (header_of s) (refused_reading (read_number s))
 
 -- What asking for a movement answers: a number, and the movement.
 abbrev pub movement_answer : ℕ → Entry → Movement
@@ -29,14 +29,14 @@ movement_at s index = movement_answer 0 (entry_in (drop (entries_start (vessels_
 
 -- The sheet's own number, then a check of what is asked for.
 unfoldable pub asked_number : List ℕ → Check → ℕ
-asked_number s check = ifZero (read_number s) (first (check ∷ [])) (read_number s)
+asked_number s check = if_zero (read_number s) (first (check ∷ [])) (read_number s)
 
 -- "Asking for a movement by its index yields s, d, t, q and checks the same, then 20"; it "yields the age too".
 abbrev pub movement_number : List ℕ → ℕ → ℕ
 movement_number s index = asked_number s (20 if leb (movements_of s) index)
 
 abbrev pub movement_asked : List ℕ → ℕ → Movement
-movement_asked s index = ifZero (movement_number s index) (movement_at s index) (movement_answer (movement_number s index) no_entry)
+movement_asked s index = if_zero (movement_number s index) (movement_at s index) (movement_answer (movement_number s index) no_entry)
 
 -- "5 after the sheet's own"
 abbrev pub name_number : List ℕ → ℕ → ℕ
@@ -48,14 +48,14 @@ name_bytes s vessel = take name_size (drop (name_start vessel) s)
 
 -- "Asking for a vessel's name yields that part of the sheet itself without its zeros, and on any refusal the empty part".
 abbrev pub name_asked : List ℕ → ℕ → List ℕ
-name_asked s vessel = ifZero (name_number s vessel) (short_name (name_bytes s vessel)) []
+name_asked s vessel = if_zero (name_number s vessel) (short_name (name_bytes s vessel)) []
 
 -- Where in the sheet that part starts: at the name, and on any refusal at the sheet's start.
 abbrev pub name_place : List ℕ → ℕ → ℕ
-name_place s vessel = ifZero (name_number s vessel) (name_start vessel) 0
+name_place s vessel = if_zero (name_number s vessel) (name_start vessel) 0
 
 -- The part that asking for a name gives: its bytes, and that it lies in the sheet itself, at its place. A pointer is a block of memory and a place in it.
-pub record NamePart (s : List ℕ) (vessel : ℕ) (sheetAt : ℕ × ℕ) (part : List ℕ) (part_at : ℕ × ℕ) : Type 0 where
+pub record NamePart (s : List ℕ) (vessel : ℕ) (sheet_at : ℕ × ℕ) (part : List ℕ) (part_at : ℕ × ℕ) : Type 0 where
   pub bytes : part ≡ name_asked s vessel
-  pub block : part_at.0 ≡ sheetAt.0
-  pub place : part_at.1 ≡ name_place s vessel + sheetAt.1
+  pub block : part_at.0 ≡ sheet_at.0
+  pub place : part_at.1 ≡ name_place s vessel + sheet_at.1

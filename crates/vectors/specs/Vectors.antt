@@ -2,7 +2,7 @@
 -- six places, and listed; or a rule, and calls that are carried out.
 -- Definitions only. Assumes nothing.
 use Rattle.std.specs.Prelude.{cond, List, [], ◌∷◌, ◌++◌, ◌≡◌, ℕ, ◌+◌, ◌*◌, ◌≤◌, eqb, length, get_or, take, drop, replicate, decimal}
-use Rattle.refusal.specs.Numbers.{ifZero}
+use Rattle.refusal.specs.Numbers.{if_zero}
 use Rattle.book.specs.Head.{opening}
 use Rattle.journal.specs.Carried.{call_size, count_calls, carried, carry_number}
 use Rattle.fields.specs.Layout.{sheet_size}
@@ -105,7 +105,7 @@ carried_listing rule calls =
     let room = replicate report_room unwritten in
     let count = count_calls calls answers in
     let k = carried count calls (opening rule vessels).head (replicate table_room 0) room in
-    ifZero (carry_number rule vessels calls answers)
+    if_zero (carry_number rule vessels calls answers)
     (numbers_line (k.numbers ++ drop count answers) ++ numbers_line k.room)
     (numbers_line answers ++ numbers_line room)
 

@@ -1,9 +1,10 @@
 -- A SHEET WRITTEN FROM NO NUMBERS. `no_movement_number`: the writer checks 2, 3, 16 of the names, 17 and the room. `no_movement_written`: the sheet is the
 -- header and the names, 24 + 8V bytes, and bytes behind them remain.
 -- Assumes nothing.
-use Rattle.std.proofs.Common.{ℕ, ◌*◌, arith, ◌≡◌, not, List, [], ◌∷◌, ◌++◌, append-nil, flat_map, eqb, ltb, length, drop}
+use mathlib.Core.List.{flat_map}
+use Rattle.std.proofs.Common.{ℕ, ◌*◌, arith, ◌≡◌, not, List, [], ◌∷◌, ◌++◌, append-nil, eqb, ltb, length, drop}
 use mathlib.Core.Bool.{or-false}
-use Rattle.refusal.specs.Numbers.{◌if◌, first, ifZero}
+use Rattle.refusal.specs.Numbers.{◌if◌, first, if_zero}
 use Rattle.book.specs.Head.{open_checks}
 use Rattle.fields.specs.Bytes.{groups}
 use Rattle.fields.specs.Layout.{name_size, entries_start, sheet_size}
@@ -32,5 +33,5 @@ module _ (rule vessels : ℕ) (names : List ℕ) where
 
   pub no_movement_written : (out : List ℕ)
       → written rule vessels names [] out
-      ≡ ifZero (write_number rule vessels names [] (length out)) (header_bytes rule vessels 0 ++ names ++ drop (entries_start vessels) out) out
+      ≡ if_zero (write_number rule vessels names [] (length out)) (header_bytes rule vessels 0 ++ names ++ drop (entries_start vessels) out) out
   no_movement_written out = rw (sheet, no_entries)

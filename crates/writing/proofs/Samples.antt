@@ -1,6 +1,7 @@
 -- Writing on a small case: the bytes as document 01 lays them out, and the writer's numbers as one table and one theorem, with one thing wrong in each row.
 -- Assumes nothing.
-use Rattle.std.proofs.Common.{ℕ, ◌≡◌, refl, List, [], ◌∷◌, map, flat_map, set, take, replicate}
+use mathlib.Core.List.{flat_map}
+use Rattle.std.proofs.Common.{ℕ, ◌≡◌, refl, List, [], ◌∷◌, map, set, take, replicate}
 use Rattle.book.specs.Head.{same, all_zero}
 use Rattle.fields.specs.Bytes.{bytes_of, groups, exists}
 use Rattle.fields.specs.Movements.{entries_checks}

@@ -1,5 +1,6 @@
 -- Laws of writing: what the checks tell once they are passed, and each way out. Assumes nothing.
-use Rattle.std.proofs.Common.{ℕ, ◌+◌, ◌*◌, ◌%◌, ◌<◌, ◌≤◌, zero-add, arith, ◌≡◌, refl, sym, ◌∙◌, Bool, true, false, not, List, [], ◌∷◌, ◌++◌, flat_map, ltb-false, lt-ltb, le-ltb, T, eqb, length, take, drop, length-append, take_at}
+use mathlib.Core.List.{flat_map}
+use Rattle.std.proofs.Common.{ℕ, ◌+◌, ◌*◌, ◌%◌, ◌<◌, ◌≤◌, zero-add, arith, ◌≡◌, refl, sym, ◌∙◌, Bool, true, false, not, List, [], ◌∷◌, ◌++◌, ltb-false, lt-ltb, le-ltb, T, eqb, length, take, drop, length-append, take_at}
 use lib.Seq.{sets, sets-eq}
 use Rattle.refusal.specs.Numbers.{Check, ◌if◌, first}
 use Rattle.refusal.proofs.Numbers.{named, passed, neither, same_if, past, not_zero, refuses, passes, passed_first, passed_second}

@@ -1,6 +1,6 @@
 -- Writing a sheet: "Writing takes rule, V, 8V name bytes" and "5M numbers (s, d, t, q, age)". Definitions only. Assumes nothing.
 use Rattle.std.specs.Prelude.{Bool, not, ◌||◌, List, [], ◌∷◌, ◌++◌, ℕ, ◌*◌, ◌/◌, ◌%◌, eqb, ltb, length, drop}
-use Rattle.refusal.specs.Numbers.{Check, ◌if◌, first, ifZero}
+use Rattle.refusal.specs.Numbers.{Check, ◌if◌, first, if_zero}
 use Rattle.fields.specs.Bytes.{bytes_of}
 use Rattle.fields.specs.Layout.{name_size, mark, header_size, entries_start, sheet_size, movements_off}
 use Rattle.names.specs.Names.{names_in, names_off}
@@ -48,6 +48,6 @@ write_number rule vessels names numbers room =
 -- "bytes behind the sheet remain"; a refusal writes nothing.
 abbrev pub written : ℕ → ℕ → List ℕ → List ℕ → List ℕ → List ℕ
 written rule vessels names numbers out =
-    ifZero (write_number rule vessels names numbers (length out))
+    if_zero (write_number rule vessels names numbers (length out))
     (sheet_of rule vessels names numbers ++ drop (sheet_size vessels (count_given numbers)) out)
     out

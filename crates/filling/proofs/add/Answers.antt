@@ -1,10 +1,10 @@
 -- `add`: what its invariant leaves to show.
 use Rattle.std.proofs.Common.{rules, ◌-◌}
-use Rattle.filling.proofs.Scattered.{fill-requires, scatter_next, scatter_end}
+use Rattle.filling.proofs.Scattered.{may_enter, scatter_next, scatter_end}
 use Rattle.filling.proofs.add.Goals as goal
 
 pub enter-requires : goal.enter-requires
-enter-requires c = search (rules, fill-requires)
+enter-requires c = search (rules, may_enter)
 
 pub loop-i-preserved : goal.loop-i-preserved
 loop-i-preserved c = (search rules, search rules, search (rules, scatter_next))
