@@ -3,7 +3,7 @@
 -- lift is accepted, with that of the tip, or with 6 where it goes back to its source (`tip_decides`, `same_vessel`); where the lift is refused,
 -- with that of the lift, if nothing is amiss with the destination (`lift_decides`).
 -- Assumes nothing.
-use Rattle.std.proofs.Common.{◌≡◌, refl, sym, ap, ◌∙◌, subst, ◌≢◌, Bool, true, false, List, [], ◌∷◌, ◌++◌, ℕ, zero, suc, ◌+◌, ◌-◌, ◌*◌, ◌≤◌, ◌<◌, add-zero, arith, leb, ltb, length, drop, drop_at, leb-false, le-ltb, eq-eqb, ne_eqb}
+use Rattle.std.proofs.Common.{◌≡◌, refl, sym, ap, ◌∙◌, subst, ◌≢◌, Bool, true, false, List, [], ◌∷◌, ◌++◌, ℕ, zero, suc, ◌+◌, ◌*◌, ◌≤◌, ◌<◌, add-zero, arith, leb, ltb, length, drop, drop_at, leb-false, le-ltb, eq-eqb, ne_eqb}
 use borrow.Author.Tests.{lt-leb}
 use Rattle.table.specs.declared.Piece.{Piece}
 use Rattle.table.specs.Pieces.{held}

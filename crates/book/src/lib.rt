@@ -2,7 +2,6 @@
 // what follows of that is shown in proofs/; the code is in the crates above, and no call keeps anything between two calls.
 #![tactic(auto)]
 
-
 use taking::Move;
 
 // A head holds a balance for each vessel that a book can have.

@@ -1,7 +1,7 @@
 -- A motion on a book known to add up: the pieces moved and the next head are together the book after it. And so a call, by its checks and the motion
 -- that it is, is the call on head and table: a transfer, a lift and a tip.
 -- Assumes nothing.
-use Rattle.std.proofs.Common.{◌≡◌, refl, sym, ap, ◌∙◌, ◌≢◌, Bool, true, false, true≢false, cond, List, ℕ, ◌+◌, ◌-◌, ◌*◌, ◌≤◌, ◌<◌, arith, eqb, length, ltb-false}
+use Rattle.std.proofs.Common.{◌≡◌, refl, sym, ap, ◌∙◌, Bool, true, false, true≢false, cond, List, ℕ, ◌+◌, ◌-◌, ◌*◌, ◌≤◌, ◌<◌, arith, eqb, length, ltb-false}
 use Rattle.table.specs.Pieces.{only, held}
 use Rattle.table.specs.Table.{most_places, pieces_of, places_of}
 use Rattle.table.proofs.Pieces.{all_map}
@@ -9,7 +9,7 @@ use Rattle.table.proofs.Table.{places_fit}
 use Rattle.taking.specs.Taking.{Taken, taken, handed}
 use Rattle.moving.specs.declared.Applied.{Applied}
 use Rattle.moving.specs.Applied.{lifted_places, full, refused, accepted, applied, Ready, Moves}
-use Rattle.refusal.specs.Numbers.{◌if◌, first}
+use Rattle.refusal.specs.Numbers.{first}
 use Rattle.book.specs.declared.Head.{Head}
 use Rattle.book.specs.declared.Motion.{Motion}
 use Rattle.book.specs.declared.Transferred.{Transferred}

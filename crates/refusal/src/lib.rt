@@ -2,7 +2,6 @@
 // The word that they give a number stands behind it.
 #![tactic(auto)]
 
-
 pub const TABLE_SHORT: u32 = 1; // no tray
 
 pub const RULE_UNKNOWN: u32 = 2; // rule unknown

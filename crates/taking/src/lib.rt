@@ -2,7 +2,6 @@
 // that is shown in proofs/.
 #![tactic(auto)]
 
-
 // Weight that is to go from a holder to another. What the source lacks is born there, with this birth minute.
 #[derive(Clone, Copy)]
 pub struct Move {

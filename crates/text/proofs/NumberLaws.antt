@@ -1,8 +1,7 @@
 -- Laws of reading numbers: the loop's invariant, its three kinds of turn and its end; and the numbers that then lie at the start.
 -- Assumes nothing.
-use Rattle.std.proofs.Common.{ℕ, suc, ◌+◌, ◌<◌, ◌≤◌, min, add-zero, add-one, arith, ◌≡◌, refl, sym, ap, ◌∙◌, Bool, true, false, not, ◌&&◌, List, [], ◌∷◌, leb-true, leb, length, get_or, take, drop, set, drop_of_length-le, length-set, drop-cons, get_or-drop}
+use Rattle.std.proofs.Common.{ℕ, suc, ◌+◌, ◌<◌, ◌≤◌, min, add-zero, add-one, arith, ◌≡◌, refl, sym, ap, ◌∙◌, Bool, true, false, ◌&&◌, List, [], ◌∷◌, leb-true, leb, length, get_or, take, drop, set, drop_of_length-le, length-set, drop-cons, get_or-drop}
 use native.Mathlib.Nat.{zero-min, min-zero, suc-min-suc, min-eq_left, min-eq_right}
-use borrow.Author.Tests.{not-true, not-false}
 use lib.ListN.{get_or-eq_default}
 use lib.Seq.{sets, take-nil}
 use Rattle.text.specs.Numbers.{zero_digit, nine_digit, digit_at, with_digit, numbers_from, numbers_in}

@@ -1,7 +1,7 @@
 -- What is shown of a line of vectors. Its numbers are a rule, and movements that are written as a sheet of three vessels, run on a table of
 -- six places, and listed; or a rule, and calls that are carried out.
 -- Definitions only. Assumes nothing.
-use Rattle.std.specs.Prelude.{cond, List, [], ◌∷◌, ◌++◌, ◌≡◌, ℕ, ◌+◌, ◌*◌, ◌≤◌, eqb, length, get_or, take, drop, replicate, decimal}
+use Rattle.std.specs.Prelude.{cond, List, [], ◌∷◌, ◌++◌, ◌≡◌, ℕ, ◌+◌, ◌*◌, ◌≤◌, eqb, get_or, take, drop, replicate, decimal}
 use Rattle.refusal.specs.Numbers.{if_zero}
 use Rattle.book.specs.Head.{opening}
 use Rattle.journal.specs.Carried.{call_size, count_calls, carried, carry_number}

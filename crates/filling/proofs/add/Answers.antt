@@ -1,5 +1,5 @@
 -- `add`: what its invariant leaves to show.
-use Rattle.std.proofs.Common.{rules, ◌-◌}
+use Rattle.std.proofs.Common.{rules}
 use Rattle.filling.proofs.Scattered.{may_enter, scatter_next, scatter_end}
 use Rattle.filling.proofs.add.Goals as goal
 

@@ -1,5 +1,5 @@
 -- `ages_off`: what its invariant leaves to show.
-use Rattle.std.proofs.Common.{◌-◌, rules}
+use Rattle.std.proofs.Common.{rules}
 use Rattle.journal.proofs.AgeLaws.{scan_turn, scan_found, scan_end}
 use Rattle.journal.proofs.ages_off.Goals as goal
 

@@ -1,6 +1,6 @@
 -- `call_all`: what its invariant leaves to show.
 use Rattle.journal.proofs.AgeLaws.{ages_one}
-use Rattle.std.proofs.Common.{rules, ◌-◌}
+use Rattle.std.proofs.Common.{rules}
 use Rattle.journal.proofs.Carrying.{going_next, going_end}
 use Rattle.journal.proofs.call_all.Goals as goal
 

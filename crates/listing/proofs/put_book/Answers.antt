@@ -6,6 +6,7 @@ use Rattle.listing.proofs.put_book.Goals as goal
 
 pub returns : goal.returns
 unfolding book_text
-returns c =
-    (then (then c.put_first-pieces_at.ensures.0 c.put_pieces-last_at.ensures.0) c.put_last.ensures.0,
-    omega (arith, c.put_first-pieces_at.ensures.1, c.put_pieces-last_at.ensures.1, c.put_last.ensures.1))
+returns c = (
+  then (then c.put_first-pieces_at.ensures.0 c.put_pieces-last_at.ensures.0) c.put_last.ensures.0,
+  omega (arith, c.put_first-pieces_at.ensures.1, c.put_pieces-last_at.ensures.1, c.put_last.ensures.1),
+)

@@ -6,6 +6,7 @@ use Rattle.listing.proofs.put_first.Goals as goal
 
 pub returns : goal.returns
 unfolding first_line
-returns c =
-    (then (then (then (then (then c.put_word-rule_at.ensures.0 c.put_word-accepted_at.ensures.0) c.put_word-pieces_at.ensures.0) c.put_word-even_at.ensures.0) c.put_word-behind.ensures.0) c.put_text.ensures,
-    omega (arith, c.put_word-rule_at.ensures.1, c.put_word-accepted_at.ensures.1, c.put_word-pieces_at.ensures.1, c.put_word-even_at.ensures.1, c.put_word-behind.ensures.1, c.put_text.ensures.next_is))
+returns c = (
+  then (then (then (then (then c.put_word-rule_at.ensures.0 c.put_word-accepted_at.ensures.0) c.put_word-pieces_at.ensures.0) c.put_word-even_at.ensures.0) c.put_word-behind.ensures.0) c.put_text.ensures,
+  omega (arith, c.put_word-rule_at.ensures.1, c.put_word-accepted_at.ensures.1, c.put_word-pieces_at.ensures.1, c.put_word-even_at.ensures.1, c.put_word-behind.ensures.1, c.put_text.ensures.next_is),
+)

@@ -1,5 +1,5 @@
 -- `put_pieces`: what its invariant leaves to show.
-use Rattle.std.proofs.Common.{rules, ◌-◌}
+use Rattle.std.proofs.Common.{rules}
 use Rattle.listing.proofs.LineLaws.{bytes_turn, count_turn, lines_put}
 use Rattle.listing.proofs.put_pieces.Goals as goal
 

@@ -6,6 +6,7 @@ use Rattle.listing.proofs.put_refused.Goals as goal
 
 pub returns : goal.returns
 unfolding refused_line
-returns c =
-    (then c.put_word-behind.ensures.0 c.put_text.ensures,
-    omega (arith, c.put_word-behind.ensures.1, c.put_text.ensures.next_is))
+returns c = (
+  then c.put_word-behind.ensures.0 c.put_text.ensures,
+  omega (arith, c.put_word-behind.ensures.1, c.put_text.ensures.next_is),
+)

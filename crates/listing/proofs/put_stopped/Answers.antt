@@ -6,6 +6,7 @@ use Rattle.listing.proofs.put_stopped.Goals as goal
 
 pub returns : goal.returns
 unfolding stopped_line
-returns c =
-    (then (then c.put_word-number_at.ensures.0 c.put_word-behind.ensures.0) c.put_text.ensures,
-    omega (arith, c.put_word-number_at.ensures.1, c.put_word-behind.ensures.1, c.put_text.ensures.next_is))
+returns c = (
+  then (then c.put_word-number_at.ensures.0 c.put_word-behind.ensures.0) c.put_text.ensures,
+  omega (arith, c.put_word-number_at.ensures.1, c.put_word-behind.ensures.1, c.put_text.ensures.next_is),
+)

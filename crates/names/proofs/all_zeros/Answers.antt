@@ -1,5 +1,5 @@
 -- `all_zeros`: what its invariant leaves to show.
-use Rattle.std.proofs.Common.{rules, ◌-◌}
+use Rattle.std.proofs.Common.{rules}
 use Rattle.book.proofs.HeadLaws.{zero_next, zero_stop, zero_end}
 use Rattle.names.proofs.all_zeros.Goals as goal
 

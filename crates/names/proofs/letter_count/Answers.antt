@@ -1,5 +1,5 @@
 -- `letter_count`: what its invariant leaves to show.
-use Rattle.std.proofs.Common.{rules, ◌-◌}
+use Rattle.std.proofs.Common.{rules}
 use Rattle.names.proofs.NameLaws.{letters_turn, letters_stop, letters_end}
 use Rattle.names.proofs.letter_count.Goals as goal
 

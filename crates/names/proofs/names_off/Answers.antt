@@ -1,5 +1,5 @@
 -- `names_off`: what its invariant leaves to show.
-use Rattle.std.proofs.Common.{rules, ◌-◌}
+use Rattle.std.proofs.Common.{rules}
 use Rattle.fields.proofs.GroupLaws.{scan_turn, scan_stop, scan_end}
 use Rattle.names.proofs.names_off.Goals as goal
 

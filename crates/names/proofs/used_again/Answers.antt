@@ -1,5 +1,5 @@
 -- `used_again`: what its invariant leaves to show.
-use Rattle.std.proofs.Common.{rules, ◌-◌}
+use Rattle.std.proofs.Common.{rules}
 use Rattle.fields.proofs.GroupLaws.{scan_turn, scan_stop, scan_end}
 use Rattle.names.proofs.used_again.Goals as goal
 

@@ -22,6 +22,6 @@ pub returns : goal.returns
 returns c =
     let w = c.write.ensures in
     let k =
-        again_good c.args.sheet.now _ c.read-r.ensures c.if-r-ne0.false _ c.take_numbers.ensures (λ i. omega (arith, c.type_inv.sheet i)) c.args.out.now _ _ (w.number, w.bytes)
+    again_good c.args.sheet.now _ c.read-r.ensures c.if-r-ne0.false _ c.take_numbers.ensures (λ i. omega (arith, c.type_inv.sheet i)) c.args.out.now _ _ (w.number, w.bytes)
     in
     record { number = k.0; bytes = k.1 }

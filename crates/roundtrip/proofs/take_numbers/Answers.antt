@@ -1,5 +1,5 @@
 -- `take_numbers`: what its invariant leaves to show.
-use Rattle.std.proofs.Common.{rules, ◌-◌}
+use Rattle.std.proofs.Common.{rules}
 use Rattle.roundtrip.proofs.TakenNumbers.{numbers_turn, numbers_end}
 use Rattle.roundtrip.proofs.take_numbers.Goals as goal
 

@@ -1,6 +1,5 @@
 -- `run::make_all` meets its contract. The invariant is `Going`: the book is known to add up, and going on from movement i ends as the whole run does.
 -- A turn makes one movement; the measure is how many are left.
-use Rattle.std.proofs.Common.{◌-◌}
 use Rattle.run.proofs.RunLaws.{going_stop, going_next, going_end}
 use Rattle.run.proofs.make_all.Goals as goal
 

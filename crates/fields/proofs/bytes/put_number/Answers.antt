@@ -1,5 +1,5 @@
 -- `bytes::put_number`: what its invariant leaves to show.
-use Rattle.std.proofs.Common.{rules, ◌-◌}
+use Rattle.std.proofs.Common.{rules}
 use Rattle.fields.proofs.ByteLaws.{put_turn, put_end}
 use Rattle.fields.proofs.bytes.put_number.Goals as goal
 

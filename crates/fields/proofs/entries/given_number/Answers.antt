@@ -1,5 +1,5 @@
 -- `entries::given_number`: what its invariant leaves to show.
-use Rattle.std.proofs.Common.{rules, ◌-◌}
+use Rattle.std.proofs.Common.{rules}
 use Rattle.fields.proofs.EntryLaws.{named_given, check_turn, check_stop, check_end}
 use Rattle.fields.proofs.entries.given_number.Goals as goal
 

@@ -1,5 +1,5 @@
 -- `entries::read_number`: what its invariant leaves to show.
-use Rattle.std.proofs.Common.{rules, ◌-◌}
+use Rattle.std.proofs.Common.{rules}
 use Rattle.fields.proofs.EntryLaws.{named_entry, check_turn, check_stop, check_end}
 use Rattle.fields.proofs.entries.read_number.Goals as goal
 

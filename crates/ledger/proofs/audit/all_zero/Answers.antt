@@ -1,5 +1,5 @@
 -- `audit::all_zero`: what its invariant leaves to show.
-use Rattle.std.proofs.Common.{rules, ◌-◌}
+use Rattle.std.proofs.Common.{rules}
 use Rattle.book.proofs.HeadLaws.{zero_next, zero_stop, zero_end}
 use Rattle.ledger.proofs.audit.all_zero.Goals as goal
 

@@ -1,5 +1,5 @@
 -- `audit::drains`: what its invariant leaves to show.
-use Rattle.std.proofs.Common.{rules, ◌-◌}
+use Rattle.std.proofs.Common.{rules}
 use Rattle.ledger.proofs.Drained.{drain_next, drain_stop, drain_end}
 use Rattle.ledger.proofs.audit.drains.Goals as goal
 

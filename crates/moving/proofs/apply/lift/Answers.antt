@@ -1,5 +1,5 @@
 -- `apply::lift`: what its invariant leaves to show.
-use Rattle.std.proofs.Common.{rules, ◌-◌}
+use Rattle.std.proofs.Common.{rules}
 use Rattle.moving.proofs.Lifting.{lift_start, lift_next, lift_end}
 use Rattle.moving.proofs.apply.lift.Goals as goal
 

@@ -1,5 +1,5 @@
 -- `plan::plan_of`: what its invariant leaves to show.
-use Rattle.std.proofs.Common.{rules, ◌-◌}
+use Rattle.std.proofs.Common.{rules}
 use Rattle.picking.proofs.Walk.{plan_reached, plan_next, plan_stop, plan_end}
 use Rattle.picking.proofs.plan.plan_of.Goals as goal
 

@@ -1,5 +1,5 @@
 -- `closing::append`: what its invariant leaves to show.
-use Rattle.std.proofs.Common.{rules, ◌-◌}
+use Rattle.std.proofs.Common.{rules}
 use Rattle.table.proofs.ClosingUp.{append_start, append_next, append_end}
 use Rattle.table.proofs.closing.append.Goals as goal
 

@@ -1,5 +1,5 @@
 -- `closing::close_up`: what its invariant leaves to show.
-use Rattle.std.proofs.Common.{rules, ◌-◌}
+use Rattle.std.proofs.Common.{rules}
 use Rattle.table.proofs.ClosingUp.{close_start, close_next, next_most, close_behind, close_end}
 use Rattle.table.proofs.closing.close_up.Goals as goal
 

@@ -1,7 +1,7 @@
 -- A byte is passed that is no digit, or a digit that another follows, or the last digit of a number; behind the loop, all numbers are put, or
 -- as many as there is room for.
 use Rattle.std.proofs.Common.{rules}
-use Rattle.text.proofs.NumberLaws.{digit_low, other_turn, digit_turn, last_turn, all_put, with_room, filled}
+use Rattle.text.proofs.NumberLaws.{other_turn, digit_turn, last_turn, all_put, with_room}
 use Rattle.text.proofs.parsing.read.Goals as goal
 
 pub loop-i-preserved-then-not-digit_at : goal.loop-i-preserved-then-not-digit_at

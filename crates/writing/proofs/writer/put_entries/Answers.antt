@@ -1,5 +1,5 @@
 -- `writer::put_entries`: what its invariant leaves to show.
-use Rattle.std.proofs.Common.{rules, ◌-◌}
+use Rattle.std.proofs.Common.{rules}
 use Rattle.writing.proofs.SheetPut.{entries_turn, entries_end}
 use Rattle.writing.proofs.writer.put_entries.Goals as goal
 
