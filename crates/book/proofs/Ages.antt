@@ -24,7 +24,7 @@ use Rattle.book.specs.Lists.{calls_on}
 use Rattle.book.specs.Former.{unaged, former_checks, former_meaning, former_book_checks, former_number, former_on, former_weighed}
 use Rattle.book.proofs.Checks.{past_clock}
 use Rattle.book.proofs.Memory.{number_split, book_passed}
-use Rattle.book.proofs.Known.{adds_up_lem}
+use Rattle.book.proofs.Known.{adds_up_told}
 use Rattle.book.proofs.Former.{bare_book}
 use Rattle.book.proofs.Cases.{Case, worked, seen, pieces}
 
@@ -36,7 +36,7 @@ module _ (h : Head) (t : List ℕ) (s d m q : ℕ) (z : h.scale ≡ 0) where
   own_number : book_number ≡ 0 → first ((meaning (post (unaged s d m q))).checks (places_of t) (book_of h t)) ≡ first ((former_meaning s d m q).checks (places_of t) (book_of h t))
   unfolding transfer_checks takes
   own_number e =
-      let u = adds_up_lem h t (book_passed h t e).1 in
+      let u = adds_up_told h t (book_passed h t e).1 in
       let bare : held the_scale (pieces_of h.pieces t) ≡ 0 = sym u.scale_is ∙ z in
       rw (bare, le-ltb m 0 (omega arith), sub-zero)
 

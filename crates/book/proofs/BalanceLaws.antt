@@ -69,9 +69,9 @@ module _ (size : ℕ) (l : List ℕ) (w : ℕ) (ps : List Piece) (u : Holders si
       go true e = refl
       go false e = sym (held_none size v (λ k. let g = holder_vessel size v k (λ z. omega arith) in omega (arith, ltb-false v size e)) u)
 
-  balance_at_lem : (v : ℕ) → v < most_vessels → get_or (balances_of size ps) v 0 ≡ held v ps
+  balances_of_at : (v : ℕ) → v < most_vessels → get_or (balances_of size ps) v 0 ≡ held v ps
   unfolding balances_of
-  balance_at_lem v h = get_d_tab (balance_of size ps) 0 most_vessels v h ∙ ap (balance_of size ps) (omega arith) ∙ balance_is v h
+  balances_of_at v h = get_d_tab (balance_of size ps) 0 most_vessels v h ∙ ap (balance_of size ps) (omega arith) ∙ balance_is v h
 
   pub matches_balances : length l ≡ most_vessels → Matches (l ++ (w ∷ [])) ps → (l ≡ balances_of size ps) × (w ≡ held the_scale ps)
   unfolding balances_of
@@ -81,7 +81,7 @@ module _ (size : ℕ) (l : List ℕ) (w : ℕ) (ps : List Piece) (u : Holders si
   )
     where
       each : (k : ℕ) → k < most_vessels → get_or l k 0 ≡ get_or (balances_of size ps) k 0
-      each k h = sym (get_or-append l (w ∷ []) 0 k (rw long h)) ∙ m.each k (omega arith) ∙ sym (balance_at_lem k h)
+      each k h = sym (get_or-append l (w ∷ []) 0 k (rw long h)) ∙ m.each k (omega arith) ∙ sym (balances_of_at k h)
 
   pub balances_match : l ≡ balances_of size ps → w ≡ held the_scale ps → Matches (l ++ (w ∷ [])) ps
   unfolding balances_of
@@ -91,7 +91,7 @@ module _ (size : ℕ) (l : List ℕ) (w : ℕ) (ps : List Piece) (u : Holders si
       long = ap length e ∙ length_tab (balance_of size ps) 0 most_vessels
 
       go : (v : ℕ) → v < most_holders → (t : Bool) → ltb v most_vessels ≡ t → get_or (l ++ (w ∷ [])) v 0 ≡ held v ps
-      go v h true q = let k : v < most_vessels = ltb-true v most_vessels q in get_or-append l (w ∷ []) 0 v (rw long k) ∙ rw e (balance_at_lem v k)
+      go v h true q = let k : v < most_vessels = ltb-true v most_vessels q in get_or-append l (w ∷ []) 0 v (rw long k) ∙ rw e (balances_of_at v k)
       go v h false q = let k : the_scale ≡ v = omega (arith, ltb-false v most_vessels q) in rw (← k) (get_or_at l w [] 0 the_scale long ∙ ew)
 
 -- the balances of a head, by holder

@@ -10,7 +10,7 @@ use Rattle.table.specs.Table.{pieces_of, places_of, lay}
 use Rattle.table.proofs.Pieces.{all_map}
 use Rattle.taking.specs.InTable.{Moved, in_table}
 use Rattle.taking.specs.Sweeping.{held_by, elsewhere}
-use Rattle.taking.proofs.InTable.{in_table_lem}
+use Rattle.taking.proofs.InTable.{taken_in_table}
 use Rattle.taking.proofs.Sweeping.{sweeps}
 use Rattle.refusal.specs.Numbers.{◌if◌, first}
 use Rattle.refusal.proofs.Numbers.{passed_first}
@@ -29,7 +29,7 @@ use Rattle.book.specs.Calls.{Call, post, lift, tip, ask, Answer, tip_on, meaning
 use Rattle.book.specs.Memory.{number_of, call_on}
 use Rattle.book.proofs.Checks.{Fit, fit, LiftFit, lift_fit, TipFit, tip_fit}
 use Rattle.book.proofs.Memory.{call_number, refused_on, on_number, passed_book, book_passed}
-use Rattle.book.proofs.Known.{AddsUp, adds_up_lem}
+use Rattle.book.proofs.Known.{AddsUp, adds_up_told}
 
 abbrev pub moved_answer : Moved → Answer
 moved_answer r = record { whole = r.whole; split = r.split; born = r.missing }
@@ -43,7 +43,7 @@ module _ (h : Head) (t : List ℕ) where
   passed_own c e = sym (on_number h t c _ refl (passed_book h t c e)) ∙ e
 
   pub accepted_book : (c : Call) → number_of h t c ≡ 0 → AddsUp h t
-  accepted_book c e = adds_up_lem h t (book_passed h t (passed_book h t c e)).1
+  accepted_book c e = adds_up_told h t (book_passed h t (passed_book h t c e)).1
 
   pub post_fit : (x : Transfer) → number_of h t (post x) ≡ 0 → Fit (of_book (book_of h t)) x
   unfolding transfer_checks
@@ -68,14 +68,14 @@ module _ (h : Head) (t : List ℕ) where
   in_words x z =
       let e = sym (call_number h t (post x)) ∙ z in
       let apart = (post_fit x e).apart in
-      rw (e, in_table_lem h.rule (motion_of x).moves ps (λ q. apart (sym q))) (refl, refl)
+      rw (e, taken_in_table h.rule (motion_of x).moves ps (λ q. apart (sym q))) (refl, refl)
 
   pub lift_in_words : (x : Lift) → (call_on h t (lift x)).number ≡ 0 → InWords (lift x) (lift_motion x)
   unfolding call_on takes
   lift_in_words x z =
       let e = sym (call_number h t (lift x)) ∙ z in
       let k = (accepted_book (lift x) e).vessels_fit in
-      rw (e, in_table_lem h.rule (lift_motion x).moves ps (λ q. omega (arith, (fit_lift x e).source_in))) (refl, refl)
+      rw (e, taken_in_table h.rule (lift_motion x).moves ps (λ q. omega (arith, (fit_lift x e).source_in))) (refl, refl)
 
   pub tip_in_words : (y : Tip) → (call_on h t (tip y)).number ≡ 0
       → (call_on h t (tip y)).table ≡ lay (elsewhere the_scale ps ++ map (hand_to y.destination) (held_by the_scale ps)) t

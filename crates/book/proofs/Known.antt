@@ -40,9 +40,9 @@ by_name h t (rule, (some, (most, (few, (counted, (fit, (equal, (scaled, end)))))
   scale_is = eqb-true _ _ scaled;
 }
 
-pub adds_up_lem : (h : Head) (t : List ℕ) → adds_up h t ≡ true → AddsUp h t
+pub adds_up_told : (h : Head) (t : List ℕ) → adds_up h t ≡ true → AddsUp h t
 unfolding adds_up
-adds_up_lem h t a = by_name h t (hold (book_tests h t) a)
+adds_up_told h t a = by_name h t (hold (book_tests h t) a)
 
 -- a head that adds up is the head of its book
 pub adds_head : (h : Head) (t : List ℕ) → AddsUp h t → h ≡ head_of (book_of h t)
@@ -95,7 +95,7 @@ pub record Known (h : Head) (t : List ℕ) : Type 0 where
 
 pub known_up : (h : Head) (t : List ℕ) → Sized h → adds_up h t ≡ true → Known h t
 known_up h t z a =
-    let u = adds_up_lem h t a in
+    let u = adds_up_told h t a in
     let b = adds_balance h t u in
     record {
       adds = a;

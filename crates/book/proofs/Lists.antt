@@ -83,7 +83,7 @@ opened_demand rule size z t cs =
       even_count = rw f.on.head_is (omega (arith, f.count));
       accepted_count = rw f.on.head_is (omega (arith, f.tally));
       forecasts = λ h q. f.forecasts (omega arith) (λ u. let k : 4 ≤ length t = q u in omega arith);
-      adds_up_lem = adds (places_of t) _ _ _ f.on f.sound;
+      book_adds_up = adds (places_of t) _ _ _ f.on f.sound;
     }
 
 -- DEMAND 3: for every opening that is accepted, every table and every list of calls.

@@ -18,7 +18,7 @@ use Rattle.book.specs.declared.Report.TheVariants.{Held, Spread, Whole}
 use Rattle.book.specs.Head.{balance_at, tab, adds_up}
 use Rattle.book.specs.Reports.{from_origin, held_row, born_within, rows, report_row, report_checks}
 use Rattle.book.proofs.BalanceLaws.{length_tab, get_d_tab}
-use Rattle.book.proofs.Known.{adds_up_lem, adds_balance}
+use Rattle.book.proofs.Known.{adds_up_told, adds_balance}
 
 -- a number of a row
 pub row_at : (f : ℕ → ℕ) (n j : ℕ) → j < n → get_or (tab f 0 n) j 0 ≡ f j
@@ -80,7 +80,7 @@ held_adds size v (also {p = p} {ps = ps} h x) =
 
 -- so on a book that adds up it is the vessel's balance
 pub held_balance : (h : Head) (t : List ℕ) → adds_up h t ≡ true → (v : ℕ) → added (report_row h.vessels (pieces_of h.pieces t) (Held v)) ≡ balance_at h v
-held_balance h t a v = let u = adds_up_lem h t a in held_adds h.vessels v (all_map (λ p f. f.origin_in) u.sound) ∙ sym (adds_balance h t u v)
+held_balance h t a v = let u = adds_up_told h t a in held_adds h.vessels v (all_map (λ p f. f.origin_in) u.sound) ∙ sym (adds_balance h t u v)
 
 -- WHOLE: "vessel v's row starts at number v × V and is its held report."
 rows_at : (size w n v u : ℕ) (ps : List Piece) → v < n → u < size → get_or (rows size w n ps) (v * size + u) 0 ≡ get_or (held_row size (w + v) ps) u 0

@@ -23,7 +23,7 @@ use Rattle.book.specs.Memory.{Outcome, book_checks, number_of, call_on}
 use Rattle.book.specs.WeighBook.{WeighBook, weighed}
 use Rattle.book.specs.Lists.{Journal, calls_on, numbers}
 use Rattle.book.proofs.Memory.{accepted_on, refused_on, on_number, book_passed}
-use Rattle.book.proofs.Known.{adds_up_lem}
+use Rattle.book.proofs.Known.{adds_up_told}
 use Rattle.book.proofs.Sound.{held_after}
 use Rattle.book.proofs.InWords.{post_fit, accepted_book}
 use Rattle.book.proofs.Cases.{Case, called, seen, pieces}
@@ -32,7 +32,7 @@ use Rattle.book.proofs.Marked.{six}
 -- on a head and a table that checks 1 and 4 let pass
 module _ (h : Head) (t : List ℕ) (e : first (book_checks h t) ≡ 0) where
   scale_is : h.scale ≡ held the_scale (pieces_of h.pieces t)
-  scale_is = (adds_up_lem h t (book_passed h t e).1).scale_is
+  scale_is = (adds_up_told h t (book_passed h t e).1).scale_is
 
   pub loaded_refuses : 0 < h.scale → (x : Transfer) (l : Lift) (q : Report) (room : List ℕ)
       → (number_of h t (post x) ≡ 22) × (number_of h t (lift l) ≡ 22) × (number_of h t (ask q room) ≡ 22)

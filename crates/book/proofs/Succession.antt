@@ -24,7 +24,7 @@ use Rattle.book.specs.Memory.{Outcome, outcome, book_checks, call_on}
 use Rattle.book.proofs.Checks.{Fit, fit, LiftFit, lift_fit}
 use Rattle.book.proofs.Sound.{number, SoundBook, takes_law, after_length, held_after, pieces_sound, lift_sane, tip_length, post_number, lift_number}
 use Rattle.book.proofs.Memory.{On, InStep, call_number, accepted_on, off_number, book_passed, number_same, back, in_step}
-use Rattle.book.proofs.Known.{AddsUp, adds_up_lem, adds_balance, adds_sound, adds_on}
+use Rattle.book.proofs.Known.{AddsUp, adds_up_told, adds_balance, adds_sound, adds_on}
 
 -- The same pieces are picked, whoever they are handed to.
 module _ (b : Book) (x : Transfer) where
@@ -164,7 +164,7 @@ module _ (h : Head) (t : List ℕ) (x : Transfer) where
     b = book_of h t
 
     a : AddsUp h t
-    a = adds_up_lem h t (book_passed h t e).1
+    a = adds_up_told h t (book_passed h t e).1
 
     sound : SoundBook places b
     sound = adds_sound h t a

@@ -79,4 +79,4 @@ pub record Demand3 (rule size : ℕ) (t : List ℕ) (cs : List Call) (r : Journa
   -- transfer and lift; and of every tip, if the table has at least 4 numbers
   pub forecasts : transfers cs ≤ places_of t → (1 ≤ tips cs → 4 ≤ length t) → numbers r.log ≡ forecast (blank size) cs
   -- the book adds up, so that number 4 never comes
-  pub adds_up_lem : adds_up r.head r.table ≡ true
+  pub book_adds_up : adds_up r.head r.table ≡ true

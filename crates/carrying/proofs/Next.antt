@@ -25,10 +25,10 @@ use Rattle.carrying.specs.Carrying.{Audited, Workable, Carriable, next_head, Cou
 
 -- past 1 and 4
 pub audited : (h : Head) (t : List ℕ) (n : ℕ) → (n ≡ first (book_checks h t)) × Sized h → n ≡ 0 → Audited h t
-audited h t n e z = let p = book_passed h t (sym e.0 ∙ z) in record { long = p.0; adds_up_lem = p.1; sized = e.1 }
+audited h t n e z = let p = book_passed h t (sym e.0 ∙ z) in record { long = p.0; book_adds_up = p.1; sized = e.1 }
 
 pub work_known : (h : Head) (t : List ℕ) → Audited h t → Known h t
-work_known h t w = known_up h t w.sized w.adds_up_lem
+work_known h t w = known_up h t w.sized w.book_adds_up
 
 pub vessels_fit : (h : Head) (t : List ℕ) → Audited h t → h.vessels ≤ most_vessels
 vessels_fit h t w = (work_known h t w).sound.vessels_fit
@@ -68,9 +68,9 @@ module _ (h : Head) (t : List ℕ) (w : Audited h t) (rule : ℕ) (m : Motion) w
     next_match : Matches (holdings (shifted h m.moves.source (m.moves.weight - r.born) m.moves.destination m.moves.weight)) (handed m.moves r)
     next_match = shift_matches h b.pieces (handed m.moves r) m.moves.source _ m.moves.destination _ source_in destination_in k.matches after
 
-    pub next_head_lem : Holders h.vessels (pieces_after b rule m) → next_head h m (accepted m.moves r) ≡ head_of (book_after b rule m)
+    pub next_head_is : Holders h.vessels (pieces_after b rule m) → next_head h m (accepted m.moves r) ≡ head_of (book_after b rule m)
     unfolding takes with_balance
-    next_head_lem u =
+    next_head_is u =
         let s = shifted h m.moves.source (m.moves.weight - r.born) m.moves.destination m.moves.weight in
         let e = matches_balances h.vessels s.balances s.scale (pieces_after b rule m) u (long_balances s _ next_match) next_match in
         rw (e.0, e.1)

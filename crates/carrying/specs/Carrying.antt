@@ -15,7 +15,7 @@ use Rattle.book.specs.Head.{most_holders, Sized, Shiftable, balance_at, shifted,
 -- A book in memory that is known to add up.
 pub record Audited (h : Head) (t : List ℕ) : Type 0 where
   pub long : 4 ≤ length t
-  pub adds_up_lem : adds_up h t ≡ true
+  pub book_adds_up : adds_up h t ≡ true
   pub sized : Sized h
 
 -- What a transfer on a known book asks beside it: memory for the keys of all places, twice, and for all pieces and one more.

@@ -16,7 +16,7 @@ use Rattle.book.proofs.ReportLaws.{length_row, length_rows}
 use Rattle.filling.specs.declared.Pass.TheVariants.{ByOrigin, ByHolder, ByBoth}
 use Rattle.filling.specs.Scatter.{cleared, add_at, born, counted, index_of, Tallied, one_pass, Reportable}
 use Rattle.filling.proofs.Scattered.{scattered}
-use Rattle.filling.proofs.Square.{row_below, tally_square, cells_inside, one_pass_lem}
+use Rattle.filling.proofs.Square.{row_below, tally_square, cells_inside, rows_in_one_pass}
 
 -- clearing: a turn and the end
 pub clear_next : (i n : ℕ) (r₀ r : List ℕ) → i < n → n ≤ length r₀ → r ≡ cleared i r₀ → set r i 0 ≡ cleared (i + 1) r₀
@@ -77,7 +77,7 @@ module _ (size : ℕ) (ps : List Piece) (k : Reportable size ps) where
     spread_filled u from to fits e = e ∙ scattered _ _ size room ps fits k.holders
 
     pub whole_filled : size * size ≤ length room → r ≡ one_pass (size * size) (ByBoth size) room ps → r ≡ onto (rows size 0 size ps) room
-    whole_filled fits e = e ∙ one_pass_lem size room fits k.holders k.origins
+    whole_filled fits e = e ∙ rows_in_one_pass size room fits k.holders k.origins
 
 -- Rows one behind the other.
 rows_snoc : (size v n : ℕ) (ps : List Piece) → rows size v (suc n) ps ≡ rows size v n ps ++ held_row size (v + n) ps

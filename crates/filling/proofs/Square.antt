@@ -79,6 +79,6 @@ pub cells_inside : (m : ℕ) {ps : List Piece} → All (λ p. p.holder < m) ps �
 cells_inside m h o = all_map (λ p (below, inside). omega (arith, row_below m p.holder m below)) (all_both h o)
 
 -- ONE PASS: "go over the pieces once and add each where it belongs." Over numbers cleared before, that is the whole report.
-pub one_pass_lem : (m : ℕ) (room : List ℕ) {ps : List Piece} → m * m ≤ length room → All (λ p. p.holder < m) ps → All (λ p. p.origin < m) ps
+pub rows_in_one_pass : (m : ℕ) (room : List ℕ) {ps : List Piece} → m * m ≤ length room → All (λ p. p.holder < m) ps → All (λ p. p.origin < m) ps
     → one_pass (m * m) (ByBoth m) room ps ≡ onto (report_row m ps Whole) room
-one_pass_lem m room {ps} fits h o = scattered _ _ (m * m) room ps fits (cells_inside m h o) ∙ ap (λ (w : List ℕ). onto w room) (sym (rows_square m ps o))
+rows_in_one_pass m room {ps} fits h o = scattered _ _ (m * m) room ps fits (cells_inside m h o) ∙ ap (λ (w : List ℕ). onto w room) (sym (rows_square m ps o))

@@ -165,8 +165,8 @@ module _ (rule size : ℕ) (l t a r : List ℕ) (o : Opened) (eo : o ≡ opening
       go (suc n) off = refl
 
   -- refused with this number, which is that of the list
-  refused_with_lem : (n : ℕ) → carry_number rule size l a ≡ n → (n ≡ 0 → ⊥) → (z : Opened) → z ≡ not_opened n → CarriesOut rule size l t a r z t a r
-  refused_with_lem n e nz z ez = record { refused = λ u. (rw e ez, refl, refl, refl); done = λ u. absurd (nz (sym e ∙ u)); demand = λ u. absurd (nz (sym e ∙ u)) }
+  list_refused : (n : ℕ) → carry_number rule size l a ≡ n → (n ≡ 0 → ⊥) → (z : Opened) → z ≡ not_opened n → CarriesOut rule size l t a r z t a r
+  list_refused n e nz z ez = record { refused = λ u. (rw e ez, refl, refl, refl); done = λ u. absurd (nz (sym e ∙ u)); demand = λ u. absurd (nz (sym e ∙ u)) }
 
   unopened : (o.number ≡ 0 → ⊥) → o ≡ not_opened o.number
   unfolding opening
@@ -177,11 +177,11 @@ module _ (rule size : ℕ) (l t a r : List ℕ) (o : Opened) (eo : o ≡ opening
       go (suc n) e = rw e
 
   pub carry_unopened : (o.number ≡ 0 → ⊥) → CarriesOut rule size l t a r o t a r
-  carry_unopened nz = refused_with_lem o.number (number_parts ∙ sym (not_zero o.number _ o.number nz)) nz o (unopened nz)
+  carry_unopened nz = list_refused o.number (number_parts ∙ sym (not_zero o.number _ o.number nz)) nz o (unopened nz)
 
   module _ (z : o.number ≡ 0) (n : ℕ) (en : n ≡ count_calls l a) (off : Bool) (eoff : off ≡ ages_off n l) where
     pub carry_refused : off ≡ true → (x : Opened) → x ≡ not_opened 18 → CarriesOut rule size l t a r x t a r
-    carry_refused h x ex = refused_with_lem 18 (number_parts ∙ rw (z, ← en, ← eoff, h)) (λ q. omega arith) x ex
+    carry_refused h x ex = list_refused 18 (number_parts ∙ rw (z, ← en, ← eoff, h)) (λ q. omega arith) x ex
 
     pub carry_ready : off ≡ false → ages_off n l ≡ false
     carry_ready h = sym eoff ∙ h

@@ -1,10 +1,10 @@
 // The listing program: reads a sheet from standard input, runs it on a table of 4,096 places and prints the run.
 #![tactic(auto)]
 
-ghost use Rattle.std.specs.Prelude.{take, replicate, OnOk, IfSome};
+ghost use Rattle.std.specs.Prelude.{replicate, OnOk, IfSome};
 ghost use Rattle.std.specs.Io.KnownBytes.{Appends};
 ghost use Rattle.listing.specs.Listing.{sheet_listing};
-ghost use Rattle.list.specs.declared.TheConstants.{SHEET, TABLE};
+ghost use Rattle.list.specs.declared.TheConstants.{TABLE};
 
 use fields::layout::{ENTRY_SIZE, HEADER_SIZE, MOST_MOVEMENTS, NAME_SIZE};
 use ledger::opening::VESSELS;
@@ -24,7 +24,7 @@ const TABLE: usize = 4 * table::PLACES;
 // Reads a sheet from the input, and writes its listing to the output.
 fn list<R: Read + Drop, W: Write>(alloc: Global, input: R, output: &mut W) -> io::Result<()>
     ensures { OnOk result (IfSome (R.remaining input)
-        (λ bytes. Appends (W.contents output.old) (W.contents output.new) (sheet_listing (take SHEET bytes) (replicate TABLE 0)))) }
+        (λ bytes. Appends (W.contents output.old) (W.contents output.new) (sheet_listing bytes (replicate TABLE 0)))) }
 {
     let mut sheet = Vec::new(alloc);
     input.take(SHEET as u64).read_to_end(&mut sheet)?;

@@ -3,3 +3,4 @@ pub mod LineLaws
 pub mod RunListing
 pub mod Published
 pub mod NoMovement
+pub mod Overlong

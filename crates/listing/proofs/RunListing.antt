@@ -1,11 +1,12 @@
 -- THE LISTING OF A SHEET: a run refused by its sheet or by 1 prints only `refused N`, and every other the lines of its book. A run's
 -- pieces lie within its table, so that there is room for every listing. Assumes nothing.
-use Rattle.std.proofs.Common.{◌≡◌, refl, sym, List, ℕ, zero, suc, ◌*◌, ◌≤◌, arith, length}
+use Rattle.std.proofs.Common.{◌≡◌, refl, sym, List, ℕ, zero, suc, ◌*◌, ◌≤◌, arith, length, take, drop}
+use Rattle.std.proofs.Math.Seq.{take-append_seam}
 use Rattle.refusal.specs.Numbers.{if_zero}
 use Rattle.refusal.proofs.Numbers.{not_zero}
 use Rattle.table.specs.Table.{most_places, pieces_of, places_of}
 use Rattle.table.proofs.Table.{places_fit}
-use Rattle.book.proofs.Known.{AddsUp, adds_up_lem}
+use Rattle.book.proofs.Known.{AddsUp, adds_up_told}
 use Rattle.run.specs.declared.Ran.{Ran}
 use Rattle.run.specs.Run.{Running, Gives, run_number, running}
 use Rattle.run.proofs.RunTheorem.{refused_run, run_theorem}
@@ -26,7 +27,7 @@ module _ (s t : List ℕ) where
     r = running s t
 
     adds : AddsUp r.answer.head r.table
-    adds = let u = run_theorem s t e in adds_up_lem _ _ (rw (u.folded.head_is, u.folded.table_is) u.demand.adds_up_lem)
+    adds = let u = run_theorem s t e in adds_up_told _ _ (rw (u.folded.head_is, u.folded.table_is) u.demand.book_adds_up)
 
   pub fitting : Fitting (running s t)
   fitting = go (run_number s t) refl
@@ -54,3 +55,7 @@ module _ (s t t' : List ℕ) (ran : Ran) (e : Gives (running s t) t' ran) where
 
   pub list_done : (l l' : List ℕ) (n : ℕ) → Listed l (listing_of ran t') n l' → Listed l (sheet_listing s t) n l'
   list_done l l' n p = rw (e.answer_is, e.table_is) at p
+
+-- the text, where it is taken out of the bytes again
+pub text_taken : (before text after : List ℕ) (size : ℕ) → Listed before text size after → take size after ≡ text
+text_taken before text after size l = rw (l.after_is, l.count_is) (take-append_seam text (drop (length text) before))

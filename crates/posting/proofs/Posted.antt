@@ -29,7 +29,7 @@ use Rattle.book.proofs.Memory.{number_same, no_place, refused_on, accepted_on, o
 use Rattle.book.proofs.Known.{Known, standing_same}
 use Rattle.carrying.specs.Carrying.{Audited, Carriable, refused_with, Carries}
 use Rattle.posting.specs.Posting.{Posts, Tips}
-use Rattle.carrying.proofs.Next.{work_known, vessels_fit, next_head_lem}
+use Rattle.carrying.proofs.Next.{work_known, vessels_fit, next_head_is}
 
 -- a call that is refused with number n
 posts_refusal : (h : Head) (t : List ℕ) (c : Call) (n : ℕ) (z : Transferred) → number_of h t c ≡ n → (n ≡ 0 → ⊥) → z ≡ refused_with h n → Posts h c t t z
@@ -101,7 +101,7 @@ module _ (h : Head) (t : List ℕ) (w : Audited h t) where
             let o = accepted_on h t c ea ∙ ap (λ (x : Meaning). outcome h t x 0) is in
             let s = (keeps (places_of t) b c k.sound (sym (number_same (places_of t) h t b k.on k.sound c) ∙ ea)).sound.sound in
             let u : Holders h.vessels (pieces_after b h.rule m) = all_map (λ q g. g.holder_in) (rw is at s) in
-            record { answer = rw o (p.answer ∙ rw (e, next_head_lem h t w h.rule m source_in destination_in u)); table = rw o (p.table ∙ rw e) }
+            record { answer = rw o (p.answer ∙ rw (e, next_head_is h t w h.rule m source_in destination_in u)); table = rw o (p.table ∙ rw e) }
 
         taking_done : Posts h c t t' r
         taking_done = go full_now refl
@@ -220,4 +220,4 @@ module _ (h : Head) (t : List ℕ) (w : Audited h t) (y : Tip) (n : ℕ) (en : n
         let o = accepted_on h t (tip y) ea in
         let s = (keeps (places_of t) b (tip y) (k h t w).sound (sym (number_same (places_of t) h t b (k h t w).on (k h t w).sound (tip y)) ∙ ea)).sound.sound in
         let u : Holders h.vessels (pieces_after b as_they_lie (tip_on b y)) = all_map (λ q g. g.holder_in) s in
-        record { answer = rw o (ex ∙ rw (q.answer, e, next_head_lem h t w as_they_lie (tip_on b y) c.source_in c.destination_in u)); table = rw o (q.table ∙ rw e) }
+        record { answer = rw o (ex ∙ rw (q.answer, e, next_head_is h t w as_they_lie (tip_on b y) c.source_in c.destination_in u)); table = rw o (q.table ∙ rw e) }

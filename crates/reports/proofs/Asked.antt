@@ -18,7 +18,7 @@ use Rattle.book.specs.declared.Report.TheVariants.{Whole}
 use Rattle.book.proofs.Memory.{refused_on, off_number, on_number, passed_book, book_passed}
 use Rattle.book.proofs.HeadLaws.{in_vessels}
 use Rattle.book.proofs.ReportLaws.{whole_room}
-use Rattle.book.proofs.Known.{Known, adds_up_lem, adds_head, known, standing_same}
+use Rattle.book.proofs.Known.{Known, adds_up_told, adds_head, known, standing_same}
 use Rattle.reports.specs.Asking.{Judged, Asks}
 use Rattle.filling.specs.Scatter.{Reportable}
 
@@ -93,5 +93,5 @@ unfolding call_on
 asked_nothing h t q room = go (number_of h t (ask q room)) refl
   where
     go : (n : ℕ) → number_of h t (ask q room) ≡ n → ((outcome h t (meaning (ask q room)) n).head ≡ h) × ((outcome h t (meaning (ask q room)) n).table ≡ t)
-    go zero e = (sym (adds_head h t (adds_up_lem h t (book_passed h t (passed_book h t (ask q room) e)).1)), refl)
+    go zero e = (sym (adds_head h t (adds_up_told h t (book_passed h t (passed_book h t (ask q room) e)).1)), refl)
     go (suc n) e = (refl, refl)

@@ -14,7 +14,7 @@ use Rattle.sheet.specs.Sheet.{entries_read, names_read, rule_of, vessels_of, mov
 use Rattle.sheet.specs.Answers.{reading, movement_answer, movement_at, movement_number, name_bytes, name_number}
 use Rattle.writing.specs.Writing.{count_given, header_bytes, sheet_of, write_number}
 use Rattle.fields.proofs.GroupLaws.{group_at, groups_append, length_groups}
-use Rattle.sheet.proofs.AnswerLaws.{read_number_lem, asked_inside, entry_of, name_of}
+use Rattle.sheet.proofs.AnswerLaws.{number_read, asked_inside, entry_of, name_of}
 use Rattle.sheet.proofs.HeaderLaws.{real_length, out_none, out_fields}
 use Rattle.writing.proofs.SheetPut.{length_header}
 use Rattle.writing.proofs.WriteLaws.{Counted, Content, write_counted, write_content, length_sheet}
@@ -130,7 +130,7 @@ module _ (rule vessels room : ℕ) (names numbers : List ℕ) (accepted : write_
   accepts = sym (passes (header_checks s) (body_checks (vessels_of s) (movements_of s) s) tt 0 0 good_header refl good_body)
 
   reads : (reading s).number ≡ 0
-  reads = read_number_lem s (reading s) refl ∙ accepts
+  reads = number_read s (reading s) refl ∙ accepts
 
   pub same_movement : (i : ℕ) → i < count → movement_at s i ≡ movement_answer 0 (given_in (drop (given_size * i) numbers))
   same_movement i h =

@@ -96,7 +96,7 @@ module _ (s : List ℕ) (m : ℕ) (h₀ : Head) (t₀ k₀ p₀ l₀ : List ℕ)
       pub going_next : (k' p' l' : List ℕ) → length k' ≡ length k → length p' ≡ length p → length l' ≡ length l
           → Going s m h₀ t₀ k₀ p₀ l₀ made.head t' k' p' l' (even + one) (i + 1)
       going_next k' p' l' lk lp ll =
-          let known = known_up h t g.work.audited.sized g.work.audited.adds_up_lem in
+          let known = known_up h t g.work.audited.sized g.work.audited.book_adds_up in
           let u = known_after h t known (transfer_at s i) in
           let v = length_after h t known (transfer_at s i) in
           let n : o.number ≡ 0 = sym same_number ∙ z in
@@ -107,7 +107,7 @@ module _ (s : List ℕ) (m : ℕ) (h₀ : Head) (t₀ k₀ p₀ l₀ : List ℕ)
             work = record {
               audited = record {
                 long = rw (posts.table, v) g.work.audited.long;
-                adds_up_lem = rw (posts.answer, posts.table) u.adds;
+                book_adds_up = rw (posts.answer, posts.table) u.adds;
                 sized = rw posts.answer u.sized;
               };
               memory = lk ∙ g.work.memory;
@@ -171,8 +171,8 @@ opened_well s e = rw (opens_well s e)
 
 -- `run`, at its returns: r is what reading yields.
 module _ (s t : List ℕ) (r : Reading) (er : r ≡ reading s) where
-  read_number_lem : read_number s ≡ r.number
-  read_number_lem = sym (ap (λ (x : Reading). x.number) er ∙ go (read_number s))
+  number_read : read_number s ≡ r.number
+  number_read = sym (ap (λ (x : Reading). x.number) er ∙ go (read_number s))
     where
       go : (n : ℕ) → (if_zero n (header_of s) (refused_reading n)).number ≡ n
       go zero = refl
@@ -189,11 +189,11 @@ module _ (s t : List ℕ) (r : Reading) (er : r ≡ reading s) where
 
   pub run_refused : (z : Ran) → (r.number ≡ 0 → ⊥) → z ≡ record { number = r.number; index = 0; even = 0; head = empty_head 0 0 } → Gives (running s t) t z
   unfolding run_number
-  run_refused z nz = not_run r.number z (rw read_number_lem (sym (not_zero r.number _ r.number nz))) nz
+  run_refused z nz = not_run r.number z (rw number_read (sym (not_zero r.number _ r.number nz))) nz
 
   module _ (zr : r.number ≡ 0) where
     read_well : read_number s ≡ 0
-    read_well = read_number_lem ∙ zr
+    read_well = number_read ∙ zr
 
     pub run_short : (z : Ran) → length t < 4 → z ≡ record { number = 1; index = 0; even = 0; head = empty_head 0 0 } → Gives (running s t) t z
     unfolding run_number
@@ -213,7 +213,7 @@ module _ (s t : List ℕ) (r : Reading) (er : r ≡ reading s) where
             reads = read_well;
             count = ap (λ (x : Reading). x.movements) header;
             few = rw header (good s 0 (sym read_well) refl).movements;
-            work = rw fresh (record { audited = record { long = long; adds_up_lem = k.adds; sized = k.sized }; memory = a; aside = omega arith; above = omega arith });
+            work = rw fresh (record { audited = record { long = long; book_adds_up = k.adds; sized = k.sized }; memory = a; aside = omega arith; above = omega arith });
           }
 
       pub run_whole : (z : Ran) (t' : List ℕ) → Gives (run_from 0 0 o.head t (transfers_of s)) t' z → Gives (running s t) t' z

@@ -33,8 +33,8 @@ module _ (s : List ℕ) (n : ℕ) (e : n ≡ read_number s) where
 
 -- what a reading tells
 module _ (s : List ℕ) (r : Reading) (e : r ≡ reading s) where
-  pub read_number_lem : r.number ≡ read_number s
-  read_number_lem = ap (λ (x : Reading). x.number) e ∙ go (read_number s)
+  pub number_read : r.number ≡ read_number s
+  number_read = ap (λ (x : Reading). x.number) e ∙ go (read_number s)
     where
       go : (n : ℕ) → (if_zero n (header_of s) (refused_reading n)).number ≡ n
       go zero = refl
@@ -42,11 +42,11 @@ module _ (s : List ℕ) (r : Reading) (e : r ≡ reading s) where
 
   pub asked_refused : (check : Check) → (r.number ≡ 0 → ⊥) → r.number ≡ asked_number s check
   unfolding asked_number
-  asked_refused check h = rw (← read_number_lem) (not_zero r.number (first (check ∷ [])) r.number h)
+  asked_refused check h = rw (← number_read) (not_zero r.number (first (check ∷ [])) r.number h)
 
   module _ (z : r.number ≡ 0) where
     pub read_zero : read_number s ≡ 0
-    read_zero = sym read_number_lem ∙ z
+    read_zero = sym number_read ∙ z
 
     pub header : r ≡ header_of s
     header = e ∙ rw read_zero

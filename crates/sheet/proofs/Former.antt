@@ -19,13 +19,13 @@ use Rattle.sheet.specs.Answers.{movement_at}
 use Rattle.sheet.specs.Former.{former_movements_off, former_entry_checks, former_read_number}
 use Rattle.sheet.proofs.AnswerLaws.{entry_of}
 
-no_entry_lem : (vessels : ℕ) (es : List Entry) → T (without 18 (entries_checks (entry_checks vessels) es))
+entries_without_18 : (vessels : ℕ) (es : List Entry) → T (without 18 (entries_checks (entry_checks vessels) es))
 unfolding entries_checks
-no_entry_lem vessels [] = tt
-no_entry_lem vessels (e ∷ es) = no_entry_lem vessels es
+entries_without_18 vessels [] = tt
+entries_without_18 vessels (e ∷ es) = entries_without_18 vessels es
 
 no_check : (s : List ℕ) → T (without 18 (read_checks s))
-no_check s = no_entry_lem (vessels_of s) (entries_read s)
+no_check s = entries_without_18 (vessels_of s) (entries_read s)
 
 pub every_age : (s : List ℕ) → read_number s ≡ 18 → ⊥
 unfolding read_number

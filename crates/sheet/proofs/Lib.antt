@@ -5,3 +5,4 @@ pub mod AnswerLaws
 pub mod Former
 pub mod NoMovement
 pub mod Samples
+pub mod Overlong

@@ -10,7 +10,7 @@ use Rattle.fields.specs.Movements.{no_entry, entries_checks}
 use Rattle.names.specs.Names.{names_off}
 use Rattle.sheet.specs.Sheet.{names_read, rule_of, vessels_of, movements_of, no_sheet, layout_off, read_number}
 use Rattle.sheet.specs.Answers.{reading, movement_answer, movement_asked}
-use Rattle.sheet.proofs.AnswerLaws.{read_number_lem, read_movements, movement_past}
+use Rattle.sheet.proofs.AnswerLaws.{number_read, read_movements, movement_past}
 
 module _ (s : List ℕ) (none : movements_of s ≡ 0) where
   pub no_movement_read : read_number s
@@ -21,6 +21,6 @@ module _ (s : List ℕ) (none : movements_of s ≡ 0) where
   pub no_movement_asked : read_number s ≡ 0 → (index : ℕ) → movement_asked s index ≡ movement_answer 20 no_entry
   no_movement_asked z index =
       let r = reading s in
-      let good : r.number ≡ 0 = read_number_lem s r refl ∙ z in
+      let good : r.number ≡ 0 = number_read s r refl ∙ z in
       let past = read_movements s r refl good in
       sym (movement_past s r index refl (movement_answer 20 no_entry) good (omega arith) refl)

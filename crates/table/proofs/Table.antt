@@ -113,8 +113,8 @@ same_behind n k t t' h e =
     rw (← size) (sym (drop-drop more (4 * n) t') ∙ ap (drop more) e ∙ drop-drop more (4 * n) t)
 
 -- a place that is not there
-pub no_piece_lem : (n i : ℕ) (t : List ℕ) → n ≤ i → no_piece ≡ piece_in n t i
-no_piece_lem n i t h = sym (get_or-eq_default (pieces_of n t) no_piece {n = i} (rw length_pieces h))
+pub no_piece_there : (n i : ℕ) (t : List ℕ) → n ≤ i → no_piece ≡ piece_in n t i
+no_piece_there n i t h = sym (get_or-eq_default (pieces_of n t) no_piece {n = i} (rw length_pieces h))
 
 pub not_put : (n i : ℕ) (t : List ℕ) (p : Piece) → n ≤ i → 4 * n ≤ length t → t ≡ put_in n i p t
 not_put n i t p h g = rw (set_out (pieces_of n t) i p (rw length_pieces h)) (formed n t g)

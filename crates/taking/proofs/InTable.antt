@@ -61,8 +61,8 @@ module _ (better : Piece → Piece → Bool) (s : ℕ) where
         next false i = rw (select_append ps qs h) (found (select better s ps) i)
 
 -- The theorem: document 01's wording, and what the proofs use.
-pub in_table_lem : (rule : ℕ) (x : Move) (ps : List Piece) → x.destination ≢ x.source
+pub taken_in_table : (rule : ℕ) (x : Move) (ps : List Piece) → x.destination ≢ x.source
     → let r = taken rule x ps in in_table rule x ps ≡ record { pieces = handed x r; whole = r.whole; split = r.split; missing = r.born }
 unfolding in_table taken
-in_table_lem rule x ps apart =
+taken_in_table rule x ps apart =
     rw (simp append-nil at (same (wins rule) x.source x.destination apart (length ps) x.weight ps [] done)) (simp append_assoc)

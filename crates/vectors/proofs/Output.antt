@@ -59,7 +59,7 @@ carried_shown rule calls r t answers room w = go (carry_number rule vessels call
 pub calls_shown : (text numbers : List ℕ) (count from : ℕ) → count ≡ min (length (numbers_in text)) (1 + calls_room) → from ≡ min 1 count
     → numbers ≡ sets (replicate (1 + calls_room) 0) 0 (numbers_in text) → (r : Opened) (t answers room : List ℕ)
     → CarriesOut (get_or numbers 0 0) vessels (take (count - from) (drop from numbers)) (replicate table_room 0) (replicate answers_room unwritten)
-        (replicate report_room unwritten) r t answers room
+    (replicate report_room unwritten) r t answers room
     → numbers_line answers ++ numbers_line room ≡ calls_listing text
 calls_shown text numbers count from ec ef en r t answers room w =
     carried_shown _ _ r t answers room w

@@ -1,4 +1,4 @@
--- `filling::fill_whole` meets its contract: one pass by holder and origin makes the whole report (`one_pass_lem`).
+-- `filling::fill_whole` meets its contract: one pass by holder and origin makes the whole report (`rows_in_one_pass`).
 use Rattle.std.proofs.Common.{rules}
 use Rattle.filling.proofs.Filling.{whole_tallied, whole_filled}
 use Rattle.filling.proofs.fill_whole.Goals as goal
