@@ -1,7 +1,7 @@
 -- LONGER THAN ANY SHEET: the listing of an input is that of its part up to any length beyond the longest sheet (`cut_listing`). So a program
 -- that reads no further than that lists the whole of its input.
 -- Assumes nothing.
-use Rattle.std.proofs.Common.{◌≡◌, ℕ, suc, ◌<◌, ◌≤◌, Bool, true, false, List, leb, length, take, refl, sym, ◌∙◌, ap, leb-true, leb-false}
+use Rattle.std.proofs.Common.{◌≡◌, ℕ, suc, ◌<◌, Bool, true, false, List, leb, length, take, refl, sym, ◌∙◌, ap, leb-true, leb-false}
 use Rattle.std.proofs.lemmas.List.{take_all}
 use Rattle.sheet.specs.Sheet.{read_number}
 use Rattle.sheet.proofs.Overlong.{longest, cut_refusal}

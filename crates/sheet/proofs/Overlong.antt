@@ -1,13 +1,13 @@
 -- LONGER THAN ANY SHEET. Of an input that is longer than the longest sheet only the header tells its number: with another end it gets the same,
 -- and never 0. So a program need not read more than one byte beyond the longest sheet (`cut_number`).
 -- Assumes nothing.
-use Rattle.std.proofs.Common.{◌≡◌, ℕ, zero, suc, ◌+◌, ◌*◌, ◌<◌, ◌≤◌, min, Bool, true, false, not, ◌||◌, List, [], ◌∷◌, ◌++◌, eqb, ltb, length, get_or, take, drop, refl, sym, ◌∙◌, ap, ap₂, arith, ltb-false, lt-ltb, le-ltb, ne_eqb}
+use Rattle.std.proofs.Common.{◌≡◌, ℕ, zero, suc, ◌+◌, ◌*◌, ◌<◌, ◌≤◌, Bool, true, false, not, ◌||◌, List, ◌∷◌, eqb, ltb, length, get_or, take, drop, refl, sym, ◌∙◌, ap, ap₂, arith, ltb-false, le-ltb, ne_eqb}
 use Rattle.std.proofs.lemmas.List.{get_or-drop, get_or-take, take-take, drop-drop, length-take-le}
 use Rattle.refusal.specs.Numbers.{Check, ◌if◌, first}
-use Rattle.book.specs.Head.{last_rule, most_vessels, same}
+use Rattle.book.specs.Head.{last_rule, most_vessels}
 use Rattle.fields.specs.Bytes.{value_in}
-use Rattle.fields.specs.Layout.{mark, mark_size, header_size, rule_at, vessels_at, movements_at, names_at, entries_at, length_at, entries_start, sheet_size, most_movements, movements_off}
-use Rattle.sheet.specs.Sheet.{rule_of, vessels_of, movements_of, layout_off, no_sheet, field_checks, body_checks, read_number}
+use Rattle.fields.specs.Layout.{mark_size, header_size, rule_at, vessels_at, movements_at, names_at, sheet_size, most_movements, movements_off}
+use Rattle.sheet.specs.Sheet.{rule_of, vessels_of, movements_of, layout_off, no_sheet, body_checks, read_number}
 
 -- the length of the longest sheet
 abbrev pub longest : ℕ
@@ -50,7 +50,7 @@ module _ (a b : List ℕ) (alike : take header_size a ≡ take header_size b) (l
   value (suc w) at h =
       let x : get_or (drop at a) 0 0 ≡ get_or (drop at b) 0 0 = get_or-drop at a 0 0 ∙ byte (at + 0) (omega arith) ∙ sym (get_or-drop at b 0 0) in
       let y : value_in w (drop 1 (drop at a)) ≡ value_in w (drop 1 (drop at b)) =
-          ap (value_in w) (drop-drop 1 at a) ∙ value w (at + 1) (omega arith) ∙ sym (ap (value_in w) (drop-drop 1 at b))
+      ap (value_in w) (drop-drop 1 at a) ∙ value w (at + 1) (omega arith) ∙ sym (ap (value_in w) (drop-drop 1 at b))
       in
       ap₂ (λ (p q : ℕ). p + 256 * q) x y
 
@@ -59,7 +59,7 @@ module _ (a b : List ℕ) (alike : take header_size a ≡ take header_size b) (l
   marked =
       let long : (s : List ℕ) → longest < length s → ltb (length s) header_size ≡ false = λ s h. let k : header_size ≤ length s = omega arith in le-ltb _ _ k in
       let m : take mark_size a ≡ take mark_size b =
-          sym (take-take mark_size header_size a (omega arith)) ∙ ap (take mark_size) alike ∙ take-take mark_size header_size b (omega arith)
+      sym (take-take mark_size header_size a (omega arith)) ∙ ap (take mark_size) alike ∙ take-take mark_size header_size b (omega arith)
       in
       rw (long a la, long b lb, m)
 
@@ -73,20 +73,20 @@ module _ (a b : List ℕ) (alike : take header_size a ≡ take header_size b) (l
   unfolding read_number
   same_refusal =
       let of : Bool → ℕ → ℕ → ℕ → ℕ =
-          λ off rule v m. outcome off (ltb last_rule rule) (ltb v 1) (ltb most_vessels v) (movements_off m) (layout_off v m b) (body_checks v m b)
+      λ off rule v m. outcome off (ltb last_rule rule) (ltb v 1) (ltb most_vessels v) (movements_off m) (layout_off v m b) (body_checks v m b)
       in
       let e : read_number b ≡ of (no_sheet a) (rule_of a) (vessels_of a) (movements_of a) =
-          sym (
-            ap (λ (off : Bool). of off (rule_of a) (vessels_of a) (movements_of a)) marked
-            ∙ ap (λ (r : ℕ). of (no_sheet b) r (vessels_of a) (movements_of a)) (value 2 rule_at (omega arith))
-            ∙ ap (λ (v : ℕ). of (no_sheet b) (rule_of b) v (movements_of a)) (value 2 vessels_at (omega arith))
-            ∙ ap (λ (m : ℕ). of (no_sheet b) (rule_of b) (vessels_of b) m) (value 4 movements_at (omega arith))
-          )
+      sym (
+      ap (λ (off : Bool). of off (rule_of a) (vessels_of a) (movements_of a)) marked
+      ∙ ap (λ (r : ℕ). of (no_sheet b) r (vessels_of a) (movements_of a)) (value 2 rule_at (omega arith))
+      ∙ ap (λ (v : ℕ). of (no_sheet b) (rule_of b) v (movements_of a)) (value 2 vessels_at (omega arith))
+      ∙ ap (λ (m : ℕ). of (no_sheet b) (rule_of b) (vessels_of b) m) (value 4 movements_at (omega arith))
+      )
       in
       let k =
-          one_number (no_sheet a) (ltb last_rule (rule_of a)) (ltb (vessels_of a) 1) (ltb most_vessels (vessels_of a)) (movements_off (movements_of a))
-          (layout_off (vessels_of a) (movements_of a) a) (layout_off (vessels_of a) (movements_of a) b) (body_checks (vessels_of a) (movements_of a) a)
-          (body_checks (vessels_of a) (movements_of a) b) (λ many over. (off a la many over, off b lb many over))
+      one_number (no_sheet a) (ltb last_rule (rule_of a)) (ltb (vessels_of a) 1) (ltb most_vessels (vessels_of a)) (movements_off (movements_of a))
+      (layout_off (vessels_of a) (movements_of a) a) (layout_off (vessels_of a) (movements_of a) b) (body_checks (vessels_of a) (movements_of a) a)
+      (body_checks (vessels_of a) (movements_of a) b) (λ many over. (off a la many over, off b lb many over))
       in
       (k.0, k.1, e ∙ k.2)
 
