@@ -22,7 +22,7 @@ const SHEET: usize = LONGEST + 1;
 const TABLE: usize = 4 * table::PLACES;
 
 // Reads a sheet from the input, and writes its listing to the output.
-fn list<R: Read + Drop, W: Write>(alloc: Global, input: R, output: &mut W) -> io::Result<()>
+pub fn list<R: Read + Drop, W: Write>(alloc: Global, input: R, output: &mut W) -> io::Result<()>
     ensures { OnOk result (IfSome (R.remaining input)
         (λ bytes. Appends (W.contents output.old) (W.contents output.new) (sheet_listing bytes (replicate TABLE 0)))) }
 {

@@ -118,7 +118,7 @@ fn print_heading<W: Write>(line: &[u8], out: &mut W) -> io::Result<()>
 }
 
 // Writes what is shown of a line.
-fn show_line<W: Write>(line: &[u8], out: &mut W) -> io::Result<()>
+pub fn show_line<W: Write>(line: &[u8], out: &mut W) -> io::Result<()>
     ensures { OnOk result (Appends (W.contents out.old) (W.contents out.new) (shown line.now)) }
 {
     let first = kind(line);
