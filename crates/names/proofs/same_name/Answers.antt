@@ -5,5 +5,5 @@ use Rattle.names.proofs.same_name.Goals as goal
 
 pub returns : goal.returns
 returns c =
-    let a = c.before.before.before.before.args in
+    let a = c.args in
     same_names a.names.now a.vessels a.i a.j _ (search rules) (search rules) c.same.ensures.0 c.same.ensures.1

@@ -4,7 +4,7 @@ use Rattle.std.proofs.Common.{refl, rules}
 use Rattle.sheet.proofs.movement_known.Goals as goal
 
 pub read16-vessels-requires : goal.read16-vessels-requires
-read16-vessels-requires c = sheet_fits _ _ _ refl c.before.requires.0 (search rules)
+read16-vessels-requires c = sheet_fits _ _ _ refl c.requires.0 (search rules)
 
 pub read_entry-e-requires : goal.read_entry-e-requires
 read_entry-e-requires c = search (rules, entry_fits)

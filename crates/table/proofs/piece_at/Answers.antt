@@ -5,5 +5,5 @@ use Rattle.table.proofs.piece_at.Goals as goal
 
 pub returns : goal.returns
 returns c =
-    let a = c.before.before.before.before.args in
+    let a = c.args in
     piece_law a.n a.i a.table.now (search rules) (search rules)
