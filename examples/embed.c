@@ -3,7 +3,7 @@
  * 0. Exits with 1 if anything differs from what was worked out by hand.
  *
  *   gcc -std=c99 -Wall -Wextra -pedantic -Iinclude examples/embed.c \
- *       crates/lumchaki/out/liblumchaki.a -o target/embed && target/embed */
+ *       crates/lumchaki/out/liblumchaki.a -o /tmp/embed && /tmp/embed */
 #include "lumchaki.h"
 
 #include <stdio.h>
