@@ -26,10 +26,10 @@ pub record Fit (g : Standing) (x : Transfer) : Type 0 where
 
 by_name : (g : Standing) (x : Transfer) → Passed (transfer_checks g x) → Fit g x
 unfolding transfer_checks
-by_name g x (load, (no_source, (no-destination, (same, (none, (back, (early, (over, (full, end))))))))) = record {
+by_name g x (load, (no_source, (no_destination, (same, (none, (back, (early, (over, (full, end))))))))) = record {
   bare = let h : g.balance the_scale ≤ 0 = ltb-false _ _ load in omega arith;
   source_in = leb-false _ _ no_source;
-  destination_in = leb-false _ _ no-destination;
+  destination_in = leb-false _ _ no_destination;
   apart = eqb-false _ _ same;
   weighty = let h : x.weight ≢ 0 = eqb-false _ _ none in omega arith;
   forward = ltb-false _ _ back;
@@ -75,9 +75,9 @@ pub record TipFit (g : Standing) (y : Tip) : Type 0 where
 
 tip_by_name : (g : Standing) (y : Tip) → Passed (tip_checks g y) → TipFit g y
 unfolding tip_checks
-tip_by_name g y (bare, (no-destination, (back, (over, end)))) = record {
+tip_by_name g y (bare, (no_destination, (back, (over, end)))) = record {
   load = eqb-false _ _ bare;
-  destination_in = leb-false _ _ no-destination;
+  destination_in = leb-false _ _ no_destination;
   forward = ltb-false _ _ back;
   room = ltb-false _ _ over;
 }

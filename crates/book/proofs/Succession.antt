@@ -63,8 +63,8 @@ module _ (places : ℕ) (b : Book) (o : SoundBook places b) (x : Transfer) (bare
         let up = (lift_motion (lift_part x)).moves in
         let down = (tip_on lifted (tip_part x)).moves in
         let weighty = all_map (λ p f. f.weighty) (pieces_sound b b.rule (lift_motion (lift_part x)) (lift_sane b (lift_part x) clear) o.sound) in
-        let off-scale = none_held the_scale b.pieces (all_map (λ p f. f.weighty) o.sound) bare in
-        let rest = ((takes_law b b.rule (lift_motion (lift_part x))).fair.keeps (λ p. p.holder ≢ the_scale) (λ p w u q. q) off-scale).0 in
+        let off_scale = none_held the_scale b.pieces (all_map (λ p f. f.weighty) o.sound) bare in
+        let rest = ((takes_law b b.rule (lift_motion (lift_part x))).fair.keeps (λ p. p.holder ≢ the_scale) (λ p w u q. q) off_scale).0 in
         ap (handed down) (sweeps down lifted.pieces weighty refl) ∙ passed_on up down (motion_of x).moves (takes b b.rule (lift_motion (lift_part x))) rest refl refl refl refl
 
     same_book : (meaning (tip (tip_part x))).next lifted ≡ (meaning (post x)).next b

@@ -69,10 +69,10 @@ module _ (s : List ℕ) where
 
   pub former_numbers : (former_read_number s ≡ 15 → movements_of s ≡ 0 → ⊥) → (former_read_number s ≡ 18 → ⊥) → read_number s ≡ former_read_number s
   unfolding read_number former_read_number
-  former_numbers not-15 not-18 =
-      let same = counts (movements_of s) refl not-15 in
+  former_numbers not_15 not_18 =
+      let same = counts (movements_of s) refl not_15 in
       alike_behind 18 (opening ++ (15 if is) ∷ parts) former entries
-      (not_given 18 (λ e. not (eqb e.age 0)) (entry_checks (vessels_of s)) (entries_read s)) (λ q. not-18 (sym same ∙ q))
+      (not_given 18 (λ e. not (eqb e.age 0)) (entry_checks (vessels_of s)) (entries_read s)) (λ q. not_18 (sym same ∙ q))
       ∙ same
 
   -- a sheet that was read
