@@ -7,8 +7,8 @@ ghost use Rattle.listing.specs.Listing.{sheet_listing};
 ghost use Rattle.list.specs.declared.TheConstants.{TABLE};
 
 use fields::layout::{ENTRY_SIZE, HEADER_SIZE, MOST_MOVEMENTS, NAME_SIZE};
+use input::read_full;
 use ledger::opening::VESSELS;
-use std::alloc::Global;
 use std::io;
 use std::io::{Read, Write};
 
@@ -22,18 +22,18 @@ const SHEET: usize = LONGEST + 1;
 const TABLE: usize = 4 * table::PLACES;
 
 // Reads a sheet from the input, and writes its listing to the output.
-pub fn list<R: Read + Drop, W: Write>(alloc: Global, input: R, output: &mut W) -> io::Result<()>
-    ensures { OnOk result (IfSome (R.remaining input)
+pub fn list<R: Read, W: Write>(input: &mut R, output: &mut W) -> io::Result<()>
+    ensures { OnOk result (IfSome (R.remaining input.old)
         (λ bytes. Appends (W.contents output.old) (W.contents output.new) (sheet_listing bytes (replicate TABLE 0)))) }
 {
-    let mut sheet = Vec::new(alloc);
-    input.take(SHEET as u64).read_to_end(&mut sheet)?;
+    let mut sheet = [0u8; SHEET];
     let mut table = [0u32; TABLE];
     let mut text = [0u8; listing::ROOM];
-    let size = listing::list_sheet(&sheet, &mut table, &mut text);
-    output.write_all(&text[..size])
+    let got = read_full(input, &mut sheet)?;
+    let put = listing::list_sheet(&sheet[..got], &mut table, &mut text);
+    output.write_all(&text[..put])
 }
 
 fn main(rt: HostRuntime) -> io::Result<()> {
-    list(rt.alloc(), rt.stdin(), &mut rt.stdout())
+    list(&mut rt.stdin(), &mut rt.stdout())
 }

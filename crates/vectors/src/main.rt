@@ -8,9 +8,12 @@ ghost use Rattle.std.specs.Io.KnownBytes.{Appends};
 ghost use Rattle.vectors.specs.Vectors.{heading, line_of, heading_line, VectorWritten, vector_listing, calls_listing, numbers_line, shown};
 
 use fields::layout::{ENTRY_SIZE, GIVEN_SIZE, HEADER_SIZE, NAME_SIZE};
+use input::read_full;
 use journal::CALL_SIZE;
 use std::io;
-use std::io::{Read, Write};
+use std::io::Write;
+
+const INPUT: usize = 8192; // bytes of all vectors at most
 
 const VESSELS: usize = 3; // A, B, C
 
@@ -147,13 +150,12 @@ fn line_end(text: &[u8], from: usize) -> usize
 }
 
 fn main(rt: HostRuntime) -> io::Result<()> {
-    let mut input = Vec::new(rt.alloc());
-    rt.stdin().read_to_end(&mut input)?;
-    let text = input.as_slice();
+    let mut text = [0u8; INPUT];
+    let got = read_full(&mut rt.stdin(), &mut text)?;
     let mut out = rt.stdout();
     let mut at: usize = 0;
-    while at < text.len() {
-        let end = line_end(text, at);
+    while at < got {
+        let end = line_end(&text[..got], at);
         show_line(&text[at..end], &mut out)?;
         at = end + 1;
     }
