@@ -69,7 +69,7 @@ def main():
 
     held = re.compile(WORD)
     for path, text in texts.items():
-        parts = re.split(r'("(?:[^"\\\n]|\\.)*")', text) if path.endswith(".rt") else [text]
+        parts = re.split(r'("(?:[^"\\\n]|\\.)*"|//[^\n]*)', text) if path.endswith(".rt") else [text]
         new = "".join(p if i % 2 else held.sub(lambda m: names.get(m[0], m[0]), p) for i, p in enumerate(parts))
         # behind a dot: a field, a member or the last word of a path
         new = re.sub(r"(?<=\.)[a-z_][\w'-]*", lambda m: names.get(m[0], m[0]), new)

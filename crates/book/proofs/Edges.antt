@@ -48,9 +48,9 @@ raise scale accepted s t q age = first (lift_checks (stand scale accepted) (lift
 abbrev lower : ℕ → ℕ → ℕ → ℕ
 lower scale d t = first (tip_checks (stand scale TOP) (tip_of d t))
 
--- the number of a report on the fresh book of three vessels, with so much room
+-- the number of a report on three vessels, with so much room
 abbrev report : Report → ℕ → ℕ
-report q room = number_of (empty_head 0 3) (9 ∷ 9 ∷ 9 ∷ 9 ∷ []) (ask q (replicate room 9))
+report q room = first (report_checks 3 room q)
 
 abbrev ◌gives◌ : ℕ → ℕ → Edge
 n gives m = record { found = n; wanted = m }
@@ -189,8 +189,13 @@ edges =
     ∷ []
 
 pub at_the_edge : map (λ e. e.found) edges ≡ map (λ e. e.wanted) edges
-unfolding edges opening book_checks adds_up every same balances_of tab places_of pieces_of transfer_checks lift_checks tip_checks report_checks number_of
+unfolding edges opening book_checks adds_up every same balances_of tab places_of pieces_of transfer_checks lift_checks tip_checks report_checks
 at_the_edge = refl
+
+-- The number of a report on the fresh book of three vessels is that of its own checks.
+pub fresh_report : (q : Report) (room : List ℕ) → number_of (empty_head 0 3) (9 ∷ 9 ∷ 9 ∷ 9 ∷ []) (ask q room) ≡ report q (length room)
+unfolding number_of book_checks adds_up every same balances_of tab places_of pieces_of
+fresh_report q room = refl
 
 -- However far off the vessel of a held report or the origin of a spread one is, it is 5, and before all else.
 pub no_vessel : (size v from to room : ℕ) → size ≤ v → (first (report_checks size room (Held v)) ≡ 5) × (first (report_checks size room (Spread v from to)) ≡ 5)

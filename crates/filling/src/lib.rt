@@ -5,8 +5,7 @@
 ghost use Rattle.std.specs.Prelude.{◌≡◌, ◌≤◌, ◌*◌, length};
 ghost use Rattle.table.specs.Table.{pieces_of};
 ghost use Rattle.refusal.specs.Numbers.{first};
-ghost use Rattle.book.specs.declared.Report.TheVariants.{Whole};
-ghost use Rattle.book.specs.Reports.{held_row, report_row, report_checks, onto};
+ghost use Rattle.book.specs.Reports.{held_row, rows, report_row, report_checks, onto};
 ghost use Rattle.filling.specs.Scatter.{cleared, born, counted, index_of, entered, scatter, Enterable, Fillable, Tallied, one_pass, Reportable};
 
 use book::Report;
@@ -115,7 +114,7 @@ fn fill_held(table: &[u32], n: usize, vessels: u32, vessel: u32, report: &mut [u
 // The rows of all vessels, in one pass.
 fn fill_whole(table: &[u32], n: usize, vessels: u32, report: &mut [u32])
     requires { (4 * n ≤ length table.now) × (vessels * vessels ≤ length report.old) × Reportable vessels (pieces_of n table.now) }
-    ensures { report.new ≡ onto (report_row vessels (pieces_of n table.now) Whole) report.old }
+    ensures { report.new ≡ onto (rows vessels 0 vessels (pieces_of n table.now)) report.old }
 {
     let row = vessels as usize;
     fill_pass(table, n, row * row, Pass::ByBoth(vessels), report);
@@ -124,7 +123,7 @@ fn fill_whole(table: &[u32], n: usize, vessels: u32, report: &mut [u32])
 // The same, row by row: the part of the room from a vessel's row on is lent to its held report.
 pub fn fill_rows(table: &[u32], n: usize, vessels: u32, report: &mut [u32])
     requires { (4 * n ≤ length table.now) × (vessels * vessels ≤ length report.old) × Reportable vessels (pieces_of n table.now) }
-    ensures { report.new ≡ onto (report_row vessels (pieces_of n table.now) Whole) report.old }
+    ensures { report.new ≡ onto (rows vessels 0 vessels (pieces_of n table.now)) report.old }
 {
     let mut v: u32 = 0;
     while v < vessels {
