@@ -19,9 +19,16 @@ TOLD = {
     "adds-up": "adds_up_told",
     "balance-at": "balances_of_at",
     "in-table": "taken_in_table",
-    "read-number": "number_read",
+    "no-piece": "no_piece_there",
     "no-entry": "entries_without_18",
+    "book-adds-up": "book_on",
 }
+
+# Lemmas that were in snake case, and had the name that a definition now gets.
+LEMMAS = {"read_number": "number_read"}
+
+# Words of ours that are English words too, and mean these in a comment.
+ENGLISH = {"ill-formed"}
 
 WORD = r"(?<![\w'·.-])[a-z_][\w']*(?:-[\w']+)*(?![\w'-])"
 OURS = re.compile(r"[a-z_][\w']*(?:-[\w']+)+|[a-z_][a-z0-9_']*[A-Z][\w'-]*")
@@ -60,7 +67,9 @@ def main():
                 words.add(m[0])
 
     names = {word: TOLD.get(word, snake(word)) for word in words}
-    together = {}
+    # what stands in snake case already, at the start of its line: a definition or a lemma
+    standing = {m[1] for path in statements for m in re.finditer(r"^\s*(?:(?:pub|abbrev|unfoldable) )*([a-z][a-z0-9_']*) :", plain(texts[path]), re.M)}
+    together = {LEMMAS.get(name, name): [name] for name in standing}
     for word, name in names.items():
         together.setdefault(name, []).append(word)
     for name, found in sorted(together.items()):
@@ -68,16 +77,23 @@ def main():
             print("fall together:", name, *sorted(found))
 
     held = re.compile(WORD)
+
+    def said(part, comment):
+        return held.sub(lambda m: m[0] if comment and m[0] in ENGLISH else names.get(m[0], m[0]), part)
+
     for path, text in texts.items():
-        parts = re.split(r'("(?:[^"\\\n]|\\.)*"|//[^\n]*)', text) if path.endswith(".rt") else [text]
-        new = "".join(p if i % 2 else held.sub(lambda m: names.get(m[0], m[0]), p) for i, p in enumerate(parts))
+        # In code a string and a comment stay as they are; a comment on definitions names them.
+        rt = path.endswith(".rt")
+        parts = re.split(r'("(?:[^"\\\n]|\\.)*"|//[^\n]*)' if rt else r"(--[^\n]*)", text)
+        if path in statements:
+            parts = [held.sub(lambda m: LEMMAS.get(m[0], m[0]), p) for p in parts]
+        new = "".join(p if rt and i % 2 else said(p, i % 2) for i, p in enumerate(parts))
         # behind a dot: a field, a member or the last word of a path
         new = re.sub(r"(?<=\.)[a-z_][\w'-]*", lambda m: names.get(m[0], m[0]), new)
         if new != text:
             open(path, "w").write(new)
-    for name in (".ci/theorems",):
-        text = open(name).read()
-        open(name, "w").write(held.sub(lambda m: names.get(m[0], m[0]), text))
+    text = open(".ci/theorems").read()
+    open(".ci/theorems", "w").write(said(text, False))
     if "--list" in sys.argv:
         for word in sorted(names):
             print(word, names[word])

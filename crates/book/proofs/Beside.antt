@@ -14,7 +14,7 @@ use Rattle.book.specs.Scale.{lift_checks, tip_checks, lift_motion, tip_motion, a
 use Rattle.book.specs.Calls.{Call, post, lift, tip, ask, tip_on, meaning}
 use Rattle.book.specs.WeighBook.{WeighBook, of_weigh, weighed, weighing, weigh_number, weigh_step, listed}
 use Rattle.book.specs.Lists.{tips_in}
-use Rattle.book.proofs.Sound.{number, takes_law, taking_number, number_of, after_count, held_after, post_number, lift_number, tip_number}
+use Rattle.book.proofs.Sound.{number, takes_law, taking_number, taking_number_is, after_count, held_after, post_number, lift_number, tip_number}
 
 -- The weigh book beside the book.
 pub record Beside (b : Book) (w : WeighBook) : Type 0 where
@@ -55,7 +55,7 @@ motion_beside b rule m w r = record {
 -- where the table has a place, the number of what takes weight from a vessel is that of its own checks
 free_number : (places : ℕ) (b : Book) (m : Motion) (cs : List Check) (ok : T (named cs)) → length b.pieces + 1 ≤ places → taking_number places b m cs ok ≡ first cs
 free_number places b m cs ok h =
-    rw (number_of places b m cs ok, ne_eqb places 0 (λ z. omega arith), le-ltb places (length (pieces_after b b.rule m)) (omega (arith, after_count b b.rule m)))
+    rw (taking_number_is places b m cs ok, ne_eqb places 0 (λ z. omega arith), le-ltb places (length (pieces_after b b.rule m)) (omega (arith, after_count b b.rule m)))
     (go (first cs))
   where
     go : (n : ℕ) → if_zero n 0 n ≡ n

@@ -24,9 +24,9 @@ no_place t = go (ltb (length t) 4) refl
 
 -- checks 1 and 4, as `refusal_of` finds them
 module _ (h : Head) (t : List ℕ) (c : Bool) (long : 4 ≤ length t) (e : c ≡ adds_up h t) where
-  pub book_adds_up : c ≡ true → 0 ≡ first (book_checks h t)
+  pub book_on : c ≡ true → 0 ≡ first (book_checks h t)
   unfolding book_checks
-  book_adds_up q = rw (le-ltb _ _ long, ← e, q)
+  book_on q = rw (le-ltb _ _ long, ← e, q)
 
   pub book_off : c ≡ false → 4 ≡ first (book_checks h t)
   unfolding book_checks

@@ -143,11 +143,11 @@ module _ (places : ℕ) (b : Book) (m : Motion) (cs : List Check) (ok : T (named
   abbrev pub taking_number : ℕ
   taking_number = first (1 if eqb places 0 ∷ (cs ++ (11 if ltb places (length after) ∷ [])))
 
-  pub number_of : taking_number ≡ or_else (1 if eqb places 0) (if_zero (first cs) (or_else (11 if ltb places (length after)) 0) (first cs))
-  number_of = ap (or_else (1 if eqb places 0)) (first_append cs (11 if ltb places (length after) ∷ []) ok)
+  pub taking_number_is : taking_number ≡ or_else (1 if eqb places 0) (if_zero (first cs) (or_else (11 if ltb places (length after)) 0) (first cs))
+  taking_number_is = ap (or_else (1 if eqb places 0)) (first_append cs (11 if ltb places (length after) ∷ []) ok)
 
   pub accepted_number : taking_number ≡ 0 → (first cs ≡ 0) × (length after ≤ places)
-  accepted_number h = go (eqb places 0) (first cs) (ltb places (length after)) refl (sym number_of ∙ h)
+  accepted_number h = go (eqb places 0) (first cs) (ltb places (length after)) refl (sym taking_number_is ∙ h)
     where
       go : (z : Bool) (n : ℕ) (t : Bool) → ltb places (length after) ≡ t → or_else (1 if z) (if_zero n (or_else (11 if t) 0) n) ≡ 0 → (n ≡ 0) × (length after ≤ places)
       go true n t u e = absurd (omega arith)

@@ -46,7 +46,7 @@ names_behind vessels l i = drop (i + 1) (names_in vessels l)
 abbrev pub used_in : List ℕ → List (List ℕ) → Bool
 used_in name names = exists (λ n rest. same name n) names
 
--- "name ill_formed or used twice": a name is off if it is ill_formed, or used again behind.
+-- "name ill-formed or used twice": a name is off if it is ill-formed, or used again behind.
 abbrev pub name_off : List ℕ → List (List ℕ) → Bool
 name_off name rest = not (well_formed name) || used_in name rest
 

@@ -2,7 +2,7 @@
 use Rattle.table.proofs.Tests.{tests}
 use Rattle.book.specs.Memory.{book_checks}
 use Rattle.book.proofs.BalanceLaws.{sized}
-use Rattle.book.proofs.Memory.{book_adds_up, book_off}
+use Rattle.book.proofs.Memory.{book_on, book_off}
 use Rattle.std.proofs.Common.{rules}
 use Rattle.ledger.proofs.audit.refusal_of.Goals as goal
 
@@ -15,7 +15,7 @@ returns-then-table-lt4 c = (
 
 pub returns-then-adds_up : goal.returns-then-adds_up
 returns-then-adds_up c = (
-  search (rules, book_adds_up),
+  search (rules, book_on),
   sized (λ v. search rules) (search rules) (search rules),
 )
 
