@@ -1,7 +1,8 @@
 -- Each rule picks what document 01 says it picks. The four are instances of one law: the picked piece wins over each piece of s
 -- received later, and no piece of s received earlier wins over it.
 -- Assumes nothing.
-use Rattle.std.proofs.Common.{◌≡◌, refl, sym, ◌≢◌, Bool, true, false, cond, List, [], ◌∷◌, ℕ, ◌≤◌, ◌<◌, arith, leb, ltb, eqb, leb-true, leb-false, ltb-true, ltb-false, le-leb, lt-ltb}
+use Rattle.std.proofs.Common.{◌≡◌, refl, sym, ◌≢◌, Bool, true, false, cond, List, [], ◌∷◌, ℕ, ◌≤◌, ◌<◌, arith, eqb, leb-true, leb-false, ltb-true, ltb-false}
+use Rattle.std.proofs.lemmas.Grind.{common_steps}
 use borrow.Author.Tests.{eqb-false}
 use Rattle.table.specs.declared.Piece.{Piece}
 use Rattle.table.specs.Pieces.{All, done, also}
@@ -35,26 +36,18 @@ module _ (better : Piece → Piece → Bool) (s : ℕ)
 never : ◌≡◌ {A = Bool} true false → ⊥
 never e = let z : ◌≡◌ {A = ℕ} 0 1 = cc in omega arith
 
+-- Under each rule a piece that wins over another wins over all that lose to it, and so over all that the other wins over.
+over : (rule p x r : ℕ) → precedes rule p x ≡ true → precedes rule r x ≡ false → precedes rule p r ≡ true
+unfolding precedes
+over rule p x r u v = grind (arith, common_steps)
+
+trans : (rule p x r : ℕ) → precedes rule p x ≡ true → precedes rule x r ≡ true → precedes rule p r ≡ true
+unfolding precedes
+trans rule p x r u v = grind (arith, common_steps)
+
 -- Under each rule; the four in the document's words follow.
 pub picks_best : (rule s : ℕ) (ps : List Piece) → Best (wins rule) s ps (select (wins rule) s ps)
-unfolding precedes
-picks_best rule s = best (wins rule) s (λ p x r. over (eqb rule 0) (eqb rule 1) (eqb rule 2) p.birth x.birth r.birth) (λ p x r. trans (eqb rule 0) (eqb rule 1) (eqb rule 2) p.birth x.birth r.birth)
-  where
-    -- by the tests on the rule
-    by : Bool → Bool → Bool → ℕ → ℕ → Bool
-    by z o t e l = cond z true (cond o false (cond t (leb e l) (ltb l e)))
-
-    over : (z o t : Bool) (p x r : ℕ) → by z o t p x ≡ true → by z o t r x ≡ false → by z o t p r ≡ true
-    over true o t p x r u v = refl
-    over false true t p x r u v = u
-    over false false true p x r u v = le-leb p r (omega (arith, leb-true p x u, leb-false r x v))
-    over false false false p x r u v = lt-ltb r p (omega (arith, ltb-true x p u, ltb-false x r v))
-
-    trans : (z o t : Bool) (p x r : ℕ) → by z o t p x ≡ true → by z o t x r ≡ true → by z o t p r ≡ true
-    trans true o t p x r u v = refl
-    trans false true t p x r u v = u
-    trans false false true p x r u v = le-leb p r (omega (arith, leb-true p x u, leb-true x r v))
-    trans false false false p x r u v = lt-ltb r p (omega (arith, ltb-true x p u, ltb-true r x v))
+picks_best rule s = best (wins rule) s (λ p x r. over rule p.birth x.birth r.birth) (λ p x r. trans rule p.birth x.birth r.birth)
 
 picks : (rule s : ℕ) (ps b : List Piece) (p : Piece) (a : List Piece) → select (wins rule) s ps ≡ at b p a → Best (wins rule) s ps (at b p a)
 picks rule s ps b p a e = rw e at (picks_best rule s ps)

@@ -1,8 +1,6 @@
 -- `run` meets its contract: refused by its sheet, refused by 1, or all movements made in turn on a fresh book, with memory of its own to work in.
-use Rattle.std.proofs.Common.{ℕ, ◌*◌, rules}
+use Rattle.std.proofs.Common.{rules}
 use lib.ListN.{length-replicate}
-use Rattle.table.specs.Table.{most_places}
-use Rattle.moving.specs.Applied.{lifted_places}
 use Rattle.run.proofs.RunLaws.{run_refused, run_short, run_ready, run_whole}
 use Rattle.run.proofs.run.Goals as goal
 
@@ -13,9 +11,7 @@ pub returns-then-table-lt4 : goal.returns-then-table-lt4
 returns-then-table-lt4 c = search (rules, run_short)
 
 pub make_all-requires : goal.make_all-requires
-make_all-requires c =
-    run_ready _ _ _ c.read-r.ensures c.if-r-ne0.false c.if-table-lt4.false _ c.open-opened.ensures _ _ _
-    (length-replicate {A = ℕ} most_places 0) (length-replicate {A = ℕ} most_places 0) (length-replicate {A = ℕ} (4 * lifted_places) 0)
+make_all-requires c = search (rules, run_ready, length-replicate)
 
 pub returns : goal.returns
-returns c = run_whole _ _ _ c.read-r.ensures c.if-r-ne0.false c.if-table-lt4.false _ c.open-opened.ensures _ _ c.make_all.ensures
+returns c = search (rules, run_whole)
