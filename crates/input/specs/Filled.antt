@@ -10,6 +10,6 @@ pub record FilledBy (old new : Option (List ℕ)) (room : List ℕ) (n : ℕ) : 
   pub read : Consumes old new (take n room)
   pub all : n < length room → IsAtEnd new
 
--- What the input has lost stood at its front.
-abbrev pub Lost : Option (List ℕ) → Option (List ℕ) → Type 0
-Lost old new = (bytes : List ℕ) × Consumes old new bytes
+-- No byte is lost: what the input gave before it failed stands at the front of the room.
+abbrev pub Kept : Option (List ℕ) → Option (List ℕ) → List ℕ → Type 0
+Kept old new room = (n : ℕ) × (n ≤ length room) × Consumes old new (take n room)
