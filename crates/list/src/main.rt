@@ -1,10 +1,10 @@
 // The listing program: reads a sheet from standard input, runs it on a table of 4,096 places and prints the run.
 #![tactic(auto)]
 
-ghost use Rattle.std.specs.Prelude.{replicate, OnOk, IfSome};
+ghost use Rattle.std.specs.Prelude.{◌*◌, replicate, OnOk, IfSome};
 ghost use Rattle.std.specs.Io.KnownBytes.{Appends};
 ghost use Rattle.listing.specs.Listing.{sheet_listing};
-ghost use Rattle.list.specs.declared.TheConstants.{TABLE};
+ghost use Rattle.table.specs.Table.{most_places};
 
 use fields::layout::{ENTRY_SIZE, HEADER_SIZE, MOST_MOVEMENTS, NAME_SIZE};
 use input::read_full;
@@ -24,7 +24,7 @@ const TABLE: usize = 4 * table::PLACES;
 // Reads a sheet from the input, and writes its listing to the output.
 pub fn list<R: Read, W: Write>(input: &mut R, output: &mut W) -> io::Result<()>
     ensures { OnOk result (IfSome (R.remaining input.old)
-        (λ bytes. Appends (W.contents output.old) (W.contents output.new) (sheet_listing bytes (replicate TABLE 0)))) }
+        (λ bytes. Appends (W.contents output.old) (W.contents output.new) (sheet_listing bytes (replicate (4 * most_places) 0)))) }
 {
     let mut sheet = [0u8; SHEET];
     let mut table = [0u32; TABLE];
