@@ -3,11 +3,13 @@ ghost use Rattle.std.specs.Prelude.{◌≡◌, ◌++◌, ◌≤◌, ◌*◌, len
 ghost use Rattle.table.specs.Table.{pieces_of};
 ghost use Rattle.book.specs.Head.{most_vessels, most_holders, is_holder, all_of, lot_fits, fits, all_zero, balanced, adds_up, Sized};
 ghost use Rattle.refusal.specs.Numbers.{first};
+ghost use Rattle.refusal.specs.Refusals.{outcome_number};
 ghost use Rattle.book.specs.Memory.{book_checks};
 ghost use Rattle.ledger.specs.Audit.{covers, drained};
 
 use super::opening;
 use book::{BALANCES, HOLDERS, Head, SCALE};
+use refusal::Refusal;
 use table::Piece;
 
 // Whether a book of so many vessels has the holder: a vessel, or the scale.
@@ -139,14 +141,14 @@ pub fn adds_up(head: Head, table: &[u32]) -> bool
 }
 
 // Checks 1 and 4, which every call makes first.
-pub fn refusal_of(head: Head, table: &[u32]) -> u32
-    ensures { (result ≡ first (book_checks head table.now)) × Sized head }
+pub fn check_book(head: Head, table: &[u32]) -> Result<(), Refusal>
+    ensures { (outcome_number result ≡ first (book_checks head table.now)) × Sized head }
 {
     if table.len() < 4 {
-        return refusal::TABLE_SHORT;
+        return Err(Refusal::TableShort);
     }
     if adds_up(head, table) {
-        return 0;
+        return Ok(());
     }
-    refusal::BOOK_OFF
+    Err(Refusal::BookOff)
 }

@@ -1,9 +1,11 @@
 // Opening a book.
 ghost use Rattle.std.specs.Prelude.{◌≡◌};
 ghost use Rattle.refusal.specs.Numbers.{first};
+ghost use Rattle.refusal.specs.Refusals.{number_of, outcome_number};
 ghost use Rattle.book.specs.Head.{empty_head, not_opened, open_checks, opening};
 
 use book::{BALANCES, Head, Opened};
+use refusal::Refusal;
 
 // The rules are numbered from 0 to this.
 pub const LAST_RULE: u32 = 3;
@@ -27,41 +29,37 @@ pub fn empty_head(rule: u32, vessels: u32) -> Head
 }
 
 // A refusal: a head of zeros.
-pub fn refused(number: u32) -> Opened
-    ensures { result ≡ not_opened number }
+pub fn refused(why: Refusal) -> Opened
+    ensures { result ≡ not_opened (number_of why) }
 {
     Opened {
-        number: number,
+        number: u32::from(why),
         head: empty_head(0, 0),
     }
 }
 
-// The first check that a rule and a number of vessels fail, or 0.
-pub fn open_number(rule: u32, vessels: u32) -> u32
-    ensures { result ≡ first (open_checks rule vessels) }
+// The first check that a rule and a number of vessels fail.
+pub fn check_opening(rule: u32, vessels: u32) -> Result<(), Refusal>
+    ensures { outcome_number result ≡ first (open_checks rule vessels) }
 {
     if LAST_RULE < rule {
-        return refusal::RULE_UNKNOWN;
+        return Err(Refusal::RuleUnknown);
     }
-    if vessels < 1 {
-        return refusal::VESSEL_COUNT;
+    if vessels < 1 || VESSELS < vessels {
+        return Err(Refusal::VesselCount);
     }
-    if VESSELS < vessels {
-        return refusal::VESSEL_COUNT;
-    }
-    0
+    Ok(())
 }
 
 // A fresh book under the rule, with this many vessels.
 pub fn open(rule: u32, vessels: u32) -> Opened
     ensures { result ≡ opening rule vessels }
 {
-    let number = open_number(rule, vessels);
-    if number != 0 {
-        return refused(number);
-    }
-    Opened {
-        number: 0,
-        head: empty_head(rule, vessels),
+    match check_opening(rule, vessels) {
+        Ok(()) => Opened {
+            number: 0,
+            head: empty_head(rule, vessels),
+        },
+        Err(why) => refused(why),
     }
 }

@@ -3,8 +3,8 @@ use Rattle.book.proofs.HeadLaws.{open_refused, open_accepted}
 use Rattle.std.proofs.Common.{rules}
 use Rattle.ledger.proofs.opening.open.Goals as goal
 
-pub returns-then-number-ne0 : goal.returns-then-number-ne0
-returns-then-number-ne0 c = search (rules, open_refused)
+pub returns-in-Err : goal.returns-in-Err
+returns-in-Err c = search (rules, open_refused)
 
-pub returns : goal.returns
-returns c = search (rules, open_accepted)
+pub returns-in-Ok : goal.returns-in-Ok
+returns-in-Ok c = search (rules, open_accepted)
