@@ -46,7 +46,7 @@ same_eq [] (y ∷ ys) e = cc
 same_eq (x ∷ xs) [] e = cc
 same_eq (x ∷ xs) (y ∷ ys) e = let u = both (eqb x y) (same xs ys) e in rw (eqb-true x y u.0, same_eq xs ys u.1)
 
--- numbers that are all 0, by what each is; and by a loop over them: a turn, a stop and the end
+-- numbers that are all 0, by what each is
 pub zero_at : (l : List ℕ) → all_zero l ≡ true → (v : ℕ) → v < length l → get_or l v 0 ≡ 0
 unfolding all_zero
 zero_at [] e v h = absurd (not-suc-le-zero h)
@@ -57,19 +57,6 @@ pub at_zero : (l : List ℕ) → ((v : ℕ) → v < length l → get_or l v 0 �
 unfolding all_zero
 at_zero [] h = refl
 at_zero (x ∷ l) h = rw (eq-eqb x 0 (h 0 (omega arith)), at_zero l (λ v u. h (suc v) (omega arith)))
-
-module _ (l : List ℕ) (i : ℕ) (z : Bool) (e : all_zero (drop i l) ≡ z) where
-  pub zero_next : i < length l → get_or l i 0 ≡ 0 → all_zero (drop (i + 1) l) ≡ z
-  unfolding all_zero
-  zero_next h q = rw add-one (rw (drop-cons l i 0 h, q) at e)
-
-  pub zero_stop : i < length l → (get_or l i 0 ≡ 0 → ⊥) → false ≡ z
-  unfolding all_zero
-  zero_stop h q = rw (drop-cons l i 0 h, ne_eqb _ _ q) at e
-
-  pub zero_end : length l ≤ i → true ≡ z
-  unfolding all_zero
-  zero_end h = rw (drop_of_length-le l {i = i} h) at e
 
 -- pieces that fit are sound
 module _ (size last : ℕ) where

@@ -3,6 +3,7 @@
 -- balances, the scale's among them, are sums of the pieces, so that they cannot be wrong.
 -- Definitions only. Assumes nothing.
 use Rattle.std.specs.Prelude.{Bool, true, false, ◌&&◌, ◌||◌, cond, List, [], ◌∷◌, ◌++◌, ℕ, zero, suc, ◌+◌, ◌-◌, ◌≤◌, ◌<◌, leb, ltb, eqb, length, get_or, set, replicate}
+use Rattle.std.specs.List.{list_all}
 use Rattle.table.specs.declared.Piece.{Piece}
 use Rattle.table.specs.Pieces.{held}
 use Rattle.table.specs.Table.{pieces_of, places_of}
@@ -136,8 +137,7 @@ same (x ∷ xs) (y ∷ ys) = eqb x y && same xs ys
 
 -- whether all numbers are 0
 unfoldable pub all_zero : List ℕ → Bool
-all_zero [] = true
-all_zero (x ∷ xs) = eqb x 0 && all_zero xs
+all_zero xs = list_all (λ x. eqb x 0) xs
 
 -- "each piece ..; each balance ..", and "the scale's balance is the sum of its pieces"
 abbrev pub balanced : Head → List Piece → List Bool

@@ -1,16 +1,16 @@
 -- Drawing every piece's weight from its holder's balance, with nothing short and nothing left over, is that all pieces fit and the
 -- balances are their sums: each way by induction over the pieces.
 -- Assumes nothing.
-use Rattle.std.proofs.Common.{◌≡◌, refl, sym, ap, ◌∙◌, Bool, true, false, ◌&&◌, List, [], ◌∷◌, ◌++◌, ℕ, suc, ◌+◌, ◌-◌, ◌≤◌, ◌<◌, zero-add, add-one, arith, leb, eqb, length, get_or, set, take, drop, length-set, length-append, length-drop, drop_of_length-le, drop-cons, get_or-set_same, get_or-set_other, le-leb, leb-true, eq-eqb, eqb-true}
-use lib.Seq.{take-length, set_at, paste-suc}
-use borrow.Author.Tests.{lt-leb, eqb-false}
+use Rattle.std.proofs.Common.{◌≡◌, refl, sym, ap, ◌∙◌, Bool, true, false, ◌&&◌, List, [], ◌∷◌, ◌++◌, ℕ, suc, ◌+◌, ◌-◌, ◌≤◌, ◌<◌, add-one, arith, leb, eqb, length, get_or, set, drop, length-set, length-append, drop_of_length-le, drop-cons, get_or-set_same, get_or-set_other, le-leb, leb-true, eq-eqb, eqb-true}
+use lib.Seq.{set_at}
+use borrow.Author.Tests.{eqb-false}
 use Rattle.table.specs.declared.Piece.{Piece}
 use Rattle.table.specs.Pieces.{no_piece, held, All, done, also}
-use Rattle.table.specs.Table.{pieces_of, places_of}
+use Rattle.table.specs.Table.{pieces_of}
 use Rattle.table.proofs.Pieces.{all_map}
 use Rattle.table.proofs.Table.{length_pieces}
 use Rattle.book.specs.declared.Head.{Head}
-use Rattle.book.specs.Head.{last_rule, most_vessels, the_scale, most_holders, balances_of, fits, all_of, every, same, all_zero, balanced, adds_up}
+use Rattle.book.specs.Head.{most_vessels, the_scale, most_holders, balances_of, fits, all_of, every, same, all_zero, balanced}
 use Rattle.ledger.specs.Audit.{covers, drawn, drained}
 use Rattle.book.proofs.HolderLaws.{holder_bound}
 use Rattle.book.proofs.Sound.{SoundPiece}
@@ -125,52 +125,17 @@ test_then a b c d e q f = rw (← e, q) f
 pub test_failed : (a b c : Bool) → a ≡ b → a ≡ false → false ≡ (b && c)
 test_failed a b c e q = rw (← e, q)
 
--- the balances copied to the start of 65 numbers, and the scale's put behind them
-scale_behind : (bs z : List ℕ) (w : ℕ) (l : List ℕ) → length bs ≡ most_vessels → length z ≡ most_holders → l ≡ bs ++ drop (length bs) z → set l most_vessels w ≡ bs ++ (w ∷ [])
-scale_behind bs z w l long lz el = rw el (one (drop (length bs) z) (simp length-drop (omega arith)))
-  where
-    one : (r : List ℕ) → length r ≡ 1 → set (bs ++ r) most_vessels w ≡ bs ++ (w ∷ [])
-    one [] e = absurd (omega arith)
-    one (x ∷ []) e = set_at bs x [] w most_vessels long
-    one (x ∷ (y ∷ r)) e = absurd (omega arith)
-
--- `is_balanced`: the copy fits, and the numbers are then the balances of all holders
-pub copy_fits : (f t : List ℕ) → length f ≡ most_vessels → length t ≡ most_holders → length f ≤ length t
-copy_fits f t a b = omega arith
-
-pub drawn_all : (h : Head) (ps : List Piece) (z l : List ℕ) (b : Bool) → h.vessels ≤ most_vessels → length h.balances ≡ most_vessels → length z ≡ most_holders
-    → l ≡ h.balances ++ drop (length h.balances) z → b ≡ drained h.vessels h.last (set l most_vessels h.scale) ps → b ≡ all_of (balanced h ps)
-drawn_all h ps z l b few long lz el eb =
+-- `is_balanced`: the head's balances, with the scale's put behind them, are the balances of all holders
+pub drawn_all : (h : Head) (ps : List Piece) (l : List ℕ) (b : Bool) → h.vessels ≤ most_vessels → length l ≡ most_vessels → l ≡ h.balances
+    → b ≡ drained h.vessels h.last (set (l ++ (0 ∷ [])) most_vessels h.scale) ps → b ≡ all_of (balanced h ps)
+drawn_all h ps l b few long el eb =
     eb
-    ∙ ap (λ (k : List ℕ). drained h.vessels h.last k ps) (scale_behind h.balances z h.scale l long lz el)
-    ∙ drained_is h.vessels h.last few ps h.balances h.scale long
-    ∙ go (every (fits h.vessels h.last) ps) (same h.balances (balances_of h.vessels ps)) (eqb h.scale (held the_scale ps))
+    ∙ ap (λ (k : List ℕ). drained h.vessels h.last k ps) (set_at l 0 [] h.scale most_vessels long)
+    ∙ drained_is h.vessels h.last few ps l h.scale long
+    ∙ rw el (go (every (fits h.vessels h.last) ps) (same h.balances (balances_of h.vessels ps)) (eqb h.scale (held the_scale ps)))
   where
     go : (f s c : Bool) → (f && (s && c)) ≡ (f && (s && (c && true)))
     go true true true = refl
     go true true false = refl
     go true false c = refl
     go false s c = refl
-
--- the copy, by what is done of it
-module _ (f t₀ t : List ℕ) (i : ℕ) (fit : length f ≤ length t₀) (e : t ≡ take i f ++ drop i t₀) where
-  pub copy_next : i < length f → set t i (get_or f i 0) ≡ take (i + 1) f ++ drop (i + 1) t₀
-  copy_next h = rw (add-one, e) (simp zero-add at (paste-suc t₀ 0 f i 0 (omega arith) h))
-
-  pub copy_end : length f ≤ i → i ≤ length f → t ≡ f ++ drop (length f) t₀
-  copy_end g h = let k : i ≡ length f = omega arith in e ∙ rw (k, take-length f)
-
--- `adds_up`, at its returns
-module _ (h : Head) (t : List ℕ) where
-  pub places_short : (m : ℕ) → m ≡ places_of t → h.rule ≤ last_rule → 1 ≤ h.vessels → h.vessels ≤ most_vessels → m < h.pieces → false ≡ adds_up h t
-  unfolding adds_up
-  places_short m e r v w k = rw (le-leb _ _ r, le-leb 1 _ v, le-leb _ _ w, lt-leb h.pieces (places_of t) (rw e at k))
-
-  pub tally_short : (m : ℕ) → m ≡ places_of t → h.rule ≤ last_rule → 1 ≤ h.vessels → h.vessels ≤ most_vessels → h.pieces ≤ m → h.accepted < h.pieces → false ≡ adds_up h t
-  unfolding adds_up
-  tally_short m e r v w k a = rw (le-leb _ _ r, le-leb 1 _ v, le-leb _ _ w, le-leb h.pieces (places_of t) (rw e at k), lt-leb _ _ a)
-
-  pub adds_end : (m : ℕ) (b : Bool) → m ≡ places_of t → h.rule ≤ last_rule → 1 ≤ h.vessels → h.vessels ≤ most_vessels → h.pieces ≤ m → h.pieces ≤ h.accepted
-      → b ≡ all_of (balanced h (pieces_of h.pieces t)) → b ≡ adds_up h t
-  unfolding adds_up
-  adds_end m b e r v w k a eb = eb ∙ rw (le-leb _ _ r, le-leb 1 _ v, le-leb _ _ w, le-leb h.pieces (places_of t) (rw e at k), le-leb _ _ a)
