@@ -20,7 +20,7 @@ const LIFTED_PLACES: usize = table::PLACES + 1;
 pub const LIFTED: usize = 4 * LIFTED_PLACES;
 
 // What moving the pieces did, and the count of pieces after it.
-#[derive(Clone, Copy)]
+#[derive(Clone, Copy, PartialEq, Eq, Debug)]
 pub struct Applied {
     pub whole: u32,
     pub split: u32,
@@ -29,6 +29,7 @@ pub struct Applied {
 }
 
 // Memory to work in, for keys and to sort them, and for lifted pieces. What it holds afterwards is not laid down.
+#[derive(Drop)]
 pub struct Workspace {
     pub keys: [u64; KEYS],
     pub spare: [u64; KEYS],
