@@ -1,7 +1,7 @@
 -- A transfer whole: the order and its plan give what `taken` says, so the plan tells whether there is room, and applying it gives
 -- the answer and the table.
 -- Assumes nothing.
-use Rattle.std.proofs.Common.{◌≡◌, refl, sym, ap, ◌∙◌, ◌≢◌, Bool, true, false, cond, List, [], ◌∷◌, ℕ, suc, ◌+◌, ◌-◌, ◌*◌, ◌≤◌, ◌<◌, min, arith, leb, ltb, eqb, length, drop, drop_of_length-le, drop-cons, leb-true, leb-false, ltb-true, ltb-false, eqb-true, lt-ltb, le-ltb}
+use Rattle.std.proofs.Common.{◌≡◌, refl, sym, ap, ◌∙◌, ◌≢◌, Bool, true, false, cond, None, Some, List, [], ◌∷◌, ℕ, suc, ◌+◌, ◌-◌, ◌*◌, ◌≤◌, ◌<◌, min, arith, leb, ltb, eqb, length, drop, drop_of_length-le, drop-cons, leb-true, leb-false, ltb-true, ltb-false, eqb-true, lt-ltb, le-ltb}
 use borrow.Author.Tests.{eqb-false}
 use Rattle.table.specs.declared.Piece.{Piece}
 use Rattle.table.specs.Table.{most_places, pieces_of, lay}
@@ -12,7 +12,7 @@ use Rattle.moving.specs.declared.Applied.{Applied}
 use Rattle.taking.specs.declared.Move.{Move}
 use Rattle.taking.specs.Taking.{Taken, handed, taken}
 use Rattle.picking.specs.Plan.{at_key, in_order, halt, plan_from, splits, lacking, taken_by, planned}
-use Rattle.moving.specs.Applied.{full, refused, accepted, applied, table_left, Ready, Moves}
+use Rattle.moving.specs.Applied.{full, accepted, applied, table_left, lifted_places, Ready, Moves}
 use Rattle.picking.specs.Ordering.{Ordered}
 use Rattle.moving.specs.Parts.{Room, Applicable, Applies}
 use Rattle.picking.proofs.Keys.{length_in_order}
@@ -48,7 +48,7 @@ by_next f a h c ks = go (ltb c (length ks)) refl
     go true e = ap f (drop-cons ks c 0 (ltb-true _ _ e)) ∙ h _ _
     go false e = ap f (drop_of_length-le ks {i = c} (ltb-false _ _ e))
 
-module _ {n places rule : ℕ} {m : Move} {keys₀ spare t l : List ℕ} (ready : Ready n places m t keys₀ spare l)
+module _ {n places rule : ℕ} {m : Move} {t : List ℕ} (ready : Ready n places m t)
     {o : Order} {keys : List ℕ} (ordered : Ordered n rule m.source o t keys)
     {r : Plan} (plan : r ≡ plan_from 0 (in_order o keys) m.weight (pieces_of n t)) where
   abbrev ps : List Piece
@@ -90,7 +90,7 @@ module _ {n places rule : ℕ} {m : Move} {keys₀ spare t l : List ℕ} (ready 
       go false e false f = let g : n < places = leb-false _ _ f in le-ltb places (n + min 1 r.left) (omega arith)
 
   module _ {b : Bool} (is : b ≡ cond (eqb r.left 0) false (leb places n)) where
-    pub move_refused : b ≡ true → Moves n places rule m t t (refused n)
+    pub move_refused : b ≡ true → Moves n places rule m t t None
     unfolding applied table_left
     move_refused e = record { answer = rw (due ∙ sym is ∙ e); table = rw (due ∙ sym is ∙ e) }
 
@@ -98,8 +98,8 @@ module _ {n places rule : ℕ} {m : Move} {keys₀ spare t l : List ℕ} (ready 
       free : full places m taking ≡ false
       free = due ∙ sym is ∙ e
 
-      pub move_ready : Room n r.whole o keys t l × Applicable n m o r keys t
-      move_ready =
+      pub move_ready : (l : List ℕ) → 4 * lifted_places ≤ length l → Room n r.whole o keys t l × Applicable n m o r keys t
+      move_ready l above =
           let h : length (handed m taking) ≤ places = ltb-false _ _ free in
           let f : 4 * length (handed m taking) ≤ length t = omega (arith, ready.room) in (
             record {
@@ -108,18 +108,19 @@ module _ {n places rule : ℕ} {m : Move} {keys₀ spare t l : List ℕ} (ready 
               goes = whole_most;
               order = omega (arith, ordered.most, ready.pieces, ready.most);
               memory = ordered.memory;
-              above = ready.above;
+              above = above;
             },
             record { rest = rw by_plan at rest; fits = rw by_plan at f },
           )
 
       pub move_applied : {t' : List ℕ} {a : Applied} → Applies n m o r keys t t' a
-          → Moves n places rule m t t' a
+          → Moves n places rule m t t' (Some a)
       unfolding applied table_left
-      move_applied done =
+      move_applied {a = a} done =
           let v = rw length_order at (by_next (splits r.left) (min 1 r.left) (λ k ks. refl) r.whole ks) in
           let w = rw length_order at (by_next (lacking r.left) 0 (λ k ks. refl) r.whole ks) in
+          let e : a ≡ accepted m taking = done.answers ∙ rw (← v, ← w) (ap (accepted m) (sym by_plan)) in
           record {
-            answer = done.answers ∙ rw (← v, ← w) (sym (rw free (ap (accepted m) by_plan)));
+            answer = rw (free, e);
             table = done.stands ∙ sym (rw free (ap (λ (z : Taken). lay (handed m z) t) by_plan));
           }

@@ -1,6 +1,6 @@
 -- What moving the pieces answers, and the table that it leaves. The table is full where the pieces afterwards would exceed the places.
 -- Definitions only. Assumes nothing.
-use Rattle.std.specs.Prelude.{◌≡◌, Bool, true, false, cond, List, ℕ, ◌+◌, ◌*◌, ◌≤◌, ◌<◌, ltb, length}
+use Rattle.std.specs.Prelude.{◌≡◌, Bool, cond, Option, None, Some, List, ℕ, ◌+◌, ◌*◌, ◌≤◌, ◌<◌, ltb, length}
 use Rattle.table.specs.Pieces.{All}
 use Rattle.table.specs.Table.{most_places, pieces_of, lay}
 use Rattle.table.specs.Closing.{VACANT, Present}
@@ -11,15 +11,12 @@ use Rattle.moving.specs.declared.Applied.{Applied}
 abbrev pub full : ℕ → Move → Taken → Bool
 full places m r = ltb places (length (handed m r))
 
-abbrev pub refused : ℕ → Applied
-refused n = record { full = true; whole = 0; split = 0; born = 0; count = n }
-
 abbrev pub accepted : Move → Taken → Applied
-accepted m r = record { full = false; whole = r.whole; split = r.split; born = r.born; count = length (handed m r) }
+accepted m r = record { whole = r.whole; split = r.split; born = r.born; count = length (handed m r) }
 
--- the answer, where n pieces were there and r is taken
-unfoldable pub applied : ℕ → ℕ → Move → Taken → Applied
-applied places n m r = cond (full places m r) (refused n) (accepted m r)
+-- the answer, where r is taken
+unfoldable pub applied : ℕ → Move → Taken → Option Applied
+applied places m r = cond (full places m r) None (Some (accepted m r))
 
 -- the table that is left of t
 unfoldable pub table_left : ℕ → Move → Taken → List ℕ → List ℕ
@@ -29,19 +26,15 @@ table_left places m r t = cond (full places m r) t (lay (handed m r) t)
 abbrev pub lifted_places : ℕ
 lifted_places = most_places + 1
 
--- What `move_pieces` asks: n pieces lie in the table t, which has so many places; there is memory for keys, to sort them, and for
--- lifted pieces; and no holder is VACANT.
-pub record Ready (n places : ℕ) (m : Move) (t keys spare lifted : List ℕ) : Type 0 where
+-- What `move_pieces` asks: n pieces lie in the table t, which has so many places; and no holder is VACANT.
+pub record Ready (n places : ℕ) (m : Move) (t : List ℕ) : Type 0 where
   pub pieces : n ≤ places
   pub most : places ≤ most_places
   pub room : 4 * places ≤ length t
-  pub memory : length keys ≡ most_places
-  pub aside : most_places ≤ length spare
-  pub above : 4 * lifted_places ≤ length lifted
   pub source : m.source < VACANT
   pub present : All Present (pieces_of n t)
 
 -- What it promises, of its answer and of the table after.
-pub record Moves (n places rule : ℕ) (m : Move) (t t' : List ℕ) (r : Applied) : Type 0 where
-  pub answer : r ≡ applied places n m (taken rule m (pieces_of n t))
+pub record Moves (n places rule : ℕ) (m : Move) (t t' : List ℕ) (r : Option Applied) : Type 0 where
+  pub answer : r ≡ applied places m (taken rule m (pieces_of n t))
   pub table : t' ≡ table_left places m (taken rule m (pieces_of n t)) t

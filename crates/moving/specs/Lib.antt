@@ -1,2 +1,3 @@
 pub mod Applied
 pub mod Parts
+pub mod Workspace

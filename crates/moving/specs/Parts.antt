@@ -1,7 +1,7 @@
 -- What the parts of the code promise each other: t is the table, l the memory for lifted pieces, and `keys` the memory for
 -- keys; with a prime, afterwards. m is the move, o the picking order and r the plan.
 -- Definitions only. Assumes nothing.
-use Rattle.std.specs.Prelude.{◌≡◌, false, cond, List, ◌++◌, map, ℕ, ◌+◌, ◌-◌, ◌*◌, ◌≤◌, min, ltb, length, take, drop}
+use Rattle.std.specs.Prelude.{◌≡◌, cond, List, ◌++◌, map, ℕ, ◌+◌, ◌-◌, ◌*◌, ◌≤◌, min, ltb, length, take, drop}
 use Rattle.table.specs.Pieces.{hand_to, of_weight, if_any}
 use Rattle.table.specs.Table.{most_places, pieces_of, lay, over, piece_in, put_in}
 use Rattle.table.specs.Closing.{vacated}
@@ -65,7 +65,6 @@ pub record Gathers (n : ℕ) (m : Move) (o : Order) (r : Plan) (keys t t' l' : L
 -- the answer where the plan r of the order o was applied and leaves so many pieces
 abbrev pub plan_answer : Order → Plan → ℕ → Applied
 plan_answer o r count = record {
-  full = false;
   whole = r.whole;
   split = cond (ltb r.whole o.count) (min 1 r.left) 0;
   born = cond (ltb r.whole o.count) 0 r.left;

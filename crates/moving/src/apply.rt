@@ -137,29 +137,18 @@ fn answer(order: Order, plan: Plan, count: usize) -> Applied
 {
     let whole = plan.whole as u32;
     if plan.whole < order.count {
-        if plan.left == 0 {
-            return Applied {
-                full: false,
-                whole: whole,
-                split: 0,
-                born: 0,
-                count: count,
-            };
-        }
         return Applied {
-            full: false,
-            whole: whole,
-            split: 1,
+            whole,
+            split: plan.left.min(1),
             born: 0,
-            count: count,
+            count,
         };
     }
     Applied {
-        full: false,
-        whole: whole,
+        whole,
         split: 0,
         born: plan.left,
-        count: count,
+        count,
     }
 }
 

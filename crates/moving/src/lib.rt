@@ -2,7 +2,9 @@
 // is made, and only if there is room for what it leaves is it applied.
 #![tactic(auto)]
 
+ghost use Rattle.std.specs.Prelude.{◌≡◌};
 ghost use Rattle.moving.specs.Applied.{Ready, Moves};
+ghost use Rattle.moving.specs.Workspace.{blank};
 
 use taking::Move;
 
@@ -17,42 +19,61 @@ const LIFTED_PLACES: usize = table::PLACES + 1;
 // Its length, four numbers for a piece.
 pub const LIFTED: usize = 4 * LIFTED_PLACES;
 
-// A transfer's answer and the count of pieces after it; or full, and nothing is changed.
-#[derive(Clone, Copy)]
+// What moving the pieces did, and the count of pieces after it.
+#[derive(Clone, Copy, PartialEq, Eq, Debug)]
 pub struct Applied {
-    pub full: bool,
     pub whole: u32,
     pub split: u32,
     pub born: u32,
     pub count: usize,
 }
 
+// Memory to work in, for keys and to sort them, and for lifted pieces. What it holds afterwards is not laid down.
+#[derive(Drop)]
+pub struct Workspace {
+    pub keys: [u64; KEYS],
+    pub spare: [u64; KEYS],
+    pub lifted: [u32; LIFTED],
+}
+
+impl Workspace {
+    // Zeros.
+    #[tactic(auto, unfolding(crate::specs::Workspace::blank))]
+    pub fn new() -> Self
+        ensures { result ≡ blank }
+    {
+        Workspace {
+            keys: [0; KEYS],
+            spare: [0; KEYS],
+            lifted: [0; LIFTED],
+        }
+    }
+}
+
 // Moves the weight from source to destination under the rule, and says what was done. If the pieces afterwards would exceed the
-// places, the table is not written. The memory for keys, to sort them and for lifted pieces is lent for work alone: what it holds
-// afterwards is not laid down.
+// places, the table is not written and the answer is `None`.
 pub fn move_pieces(
     table: &mut [u32],
     n: usize,
     places: usize,
     rule: u32,
     m: Move,
-    keys: &mut [u64],
-    spare: &mut [u64],
-    lifted: &mut [u32],
-) -> Applied
-    requires { Ready n places m table.old keys.old spare.old lifted.old }
+    work: &mut Workspace,
+) -> Option<Applied>
+    requires { Ready n places m table.old }
     ensures { Moves n places rule m table.old table.new result }
 {
-    let order = picking::selection::picking_order(table, n, rule, m.source, keys, spare);
-    let plan = picking::plan::plan_of(table, n, keys, order, m.weight);
+    let order = picking::selection::picking_order(
+        table,
+        n,
+        rule,
+        m.source,
+        &mut work.keys,
+        &mut work.spare,
+    );
+    let plan = picking::plan::plan_of(table, n, &work.keys, order, m.weight);
     if picking::plan::is_full(plan, n, places) {
-        return Applied {
-            full: true,
-            whole: 0,
-            split: 0,
-            born: 0,
-            count: n,
-        };
+        return None;
     }
-    apply::apply(table, n, keys, order, plan, m, lifted)
+    Some(apply::apply(table, n, &work.keys, order, plan, m, &mut work.lifted))
 }

@@ -1,6 +1,6 @@
 -- `move_pieces` meets its contract: what the order and its plan promise tells whether there is room, and if so, what applying the
 -- plan leaves is what is asked (proofs/Moving.antt).
-use Rattle.std.proofs.Common.{rules}
+use Rattle.std.proofs.Common.{arith, rules}
 use Rattle.moving.proofs.Moving.{move_refused, move_ready, move_applied}
 use Rattle.moving.proofs.move_pieces.Goals as goal
 
@@ -8,7 +8,8 @@ pub returns-then-is_full : goal.returns-then-is_full
 returns-then-is_full c = search (rules, move_refused)
 
 pub apply-requires : goal.apply-requires
-apply-requires c = move_ready c.requires c.picking_order-order.ensures c.plan_of-plan.ensures c.is_full.ensures c.if-is_full.false
+apply-requires c =
+    move_ready c.requires c.picking_order-order.ensures c.plan_of-plan.ensures c.is_full.ensures c.if-is_full.false c.args.work.now.lifted (omega arith)
 
 pub returns : goal.returns
 returns c =
