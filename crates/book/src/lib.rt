@@ -15,7 +15,7 @@ pub const HOLDERS: usize = BALANCES + 1;
 
 // The head of a book. `scale` is the balance of the scale.
 #[repr(C)]
-#[derive(Clone, Copy)]
+#[derive(Clone, Copy, Debug, PartialEq, Eq)]
 pub struct Head {
     pub rule: u32,
     pub vessels: u32,
@@ -28,7 +28,7 @@ pub struct Head {
 
 // What opening answers.
 #[repr(C)]
-#[derive(Clone, Copy)]
+#[derive(Clone, Copy, Debug, PartialEq, Eq)]
 pub struct Opened {
     pub number: u32,
     pub head: Head,
@@ -38,7 +38,7 @@ pub struct Opened {
 pub const MOST_AGE: u32 = 65535;
 
 // A transfer of weight from a vessel to another at a minute. What is born was milled `age` minutes before.
-#[derive(Clone, Copy)]
+#[derive(Clone, Copy, Debug, PartialEq, Eq)]
 pub struct Transfer {
     pub source: u32,
     pub destination: u32,
@@ -48,7 +48,7 @@ pub struct Transfer {
 }
 
 // Weight taken from a vessel onto the scale at a minute: a transfer whose destination is yet to come.
-#[derive(Clone, Copy)]
+#[derive(Clone, Copy, Debug, PartialEq, Eq)]
 pub struct Lift {
     pub source: u32,
     pub minute: u32,
@@ -57,14 +57,14 @@ pub struct Lift {
 }
 
 // The scale emptied into a vessel at a minute.
-#[derive(Clone, Copy)]
+#[derive(Clone, Copy, Debug, PartialEq, Eq)]
 pub struct Tip {
     pub destination: u32,
     pub minute: u32,
 }
 
 // What transfer, lift and tip do to a book: the move of pieces, the minute, and how often it counts as a transfer.
-#[derive(Clone, Copy)]
+#[derive(Clone, Copy, Debug, PartialEq, Eq)]
 pub struct Motion {
     pub moves: Move,
     pub minute: u32,
@@ -73,7 +73,7 @@ pub struct Motion {
 
 // What a transfer or a lift answers: how many pieces moved whole, how many were split, the weight born.
 #[repr(C)]
-#[derive(Clone, Copy)]
+#[derive(Clone, Copy, Debug, PartialEq, Eq)]
 pub struct Transferred {
     pub number: u32,
     pub head: Head,
@@ -84,7 +84,7 @@ pub struct Transferred {
 
 // What a tip answers.
 #[repr(C)]
-#[derive(Clone, Copy)]
+#[derive(Clone, Copy, Debug, PartialEq, Eq)]
 pub struct Tipped {
     pub number: u32,
     pub head: Head,
@@ -92,7 +92,7 @@ pub struct Tipped {
 
 // What a report is asked for: the weight by origin in a vessel; the weight in each vessel that was born at an origin from a minute to a
 // minute; the first of all vessels.
-#[derive(Clone, Copy)]
+#[derive(Clone, Copy, Debug, PartialEq, Eq)]
 pub enum Report {
     Held(u32),
     Spread(u32, u32, u32),
@@ -101,7 +101,7 @@ pub enum Report {
 
 // What a report answers.
 #[repr(C)]
-#[derive(Clone, Copy)]
+#[derive(Clone, Copy, Debug, PartialEq, Eq)]
 pub struct Reported {
     pub number: u32,
     pub head: Head,

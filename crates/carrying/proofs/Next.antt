@@ -1,18 +1,24 @@
 -- A motion on a book known to add up: the pieces moved and the next head are together the book after it. And so a call, by its checks and the motion
 -- that it is, is the call on head and table: a transfer, a lift and a tip.
 -- Assumes nothing.
-use Rattle.std.proofs.Common.{◌≡◌, refl, sym, ap, ◌∙◌, Bool, true, false, true≢false, cond, List, ℕ, ◌+◌, ◌-◌, ◌*◌, ◌≤◌, ◌<◌, arith, eqb, length, ltb-false}
+use Rattle.std.specs.Prelude.{unwrap_or}
+use Rattle.std.specs.Option.{ok_or}
+use Rattle.std.specs.Result.{result_ok, result_err}
+use Rattle.std.proofs.lemmas.Option.{none-some}
+use Rattle.std.proofs.Common.{◌≡◌, refl, sym, ap, ◌∙◌, Bool, true, false, cond, Option, None, Some, Result, Ok, Err, List, ℕ, ◌+◌, ◌-◌, ◌≤◌, ◌<◌, arith, eqb, length, ltb-false}
 use Rattle.table.specs.Pieces.{only, held}
-use Rattle.table.specs.Table.{most_places, pieces_of, places_of}
+use Rattle.table.specs.Table.{pieces_of, places_of}
 use Rattle.table.proofs.Pieces.{all_map}
 use Rattle.table.proofs.Table.{places_fit}
 use Rattle.taking.specs.Taking.{Taken, taken, handed}
 use Rattle.moving.specs.declared.Applied.{Applied}
-use Rattle.moving.specs.Applied.{lifted_places, full, refused, accepted, applied, Ready, Moves}
+use Rattle.moving.specs.Applied.{full, accepted, applied, Ready, Moves}
 use Rattle.refusal.specs.Numbers.{first}
 use Rattle.book.specs.declared.Head.{Head}
 use Rattle.book.specs.declared.Motion.{Motion}
-use Rattle.book.specs.declared.Transferred.{Transferred}
+use Rattle.carrying.specs.declared.Carried.{Carried}
+use Rattle.refusal.specs.declared.Refusal.{Refusal}
+use Rattle.refusal.specs.declared.Refusal.TheVariants.{TableFull}
 use Rattle.book.specs.Head.{Book, most_vessels, most_holders, Sized, Shiftable, balance_at, with_balance, holdings, shifted, head_of, book_of}
 use Rattle.book.specs.Motion.{takes, pieces_after, book_after}
 use Rattle.book.specs.Memory.{book_checks}
@@ -21,7 +27,7 @@ use Rattle.book.proofs.BalanceLaws.{Holders, Matches, matches_balances, long_bal
 use Rattle.book.proofs.Sound.{takes_law, held_after}
 use Rattle.book.proofs.Memory.{book_passed}
 use Rattle.book.proofs.Known.{Known, known_up}
-use Rattle.carrying.specs.Carrying.{Audited, Workable, Carriable, next_head, Countable, concluded, Carries}
+use Rattle.carrying.specs.Carrying.{Audited, Carriable, next_head, Countable, concluded, Carries}
 
 -- past 1 and 4
 pub audited : (h : Head) (t : List ℕ) (n : ℕ) → (n ≡ first (book_checks h t)) × Sized h → n ≡ 0 → Audited h t
@@ -32,10 +38,6 @@ work_known h t w = known_up h t w.sized w.book_adds_up
 
 pub vessels_fit : (h : Head) (t : List ℕ) → Audited h t → h.vessels ≤ most_vessels
 vessels_fit h t w = (work_known h t w).sound.vessels_fit
-
--- with memory of the right size to work in
-pub workable : (h : Head) (t keys spare lifted : List ℕ) → Audited h t → length keys ≡ most_places → length spare ≡ most_places → length lifted ≡ 4 * lifted_places → Workable h t keys spare lifted
-workable h t keys spare lifted w a b c = record { audited = w; memory = a; aside = omega arith; above = omega arith }
 
 -- A motion, with pieces picked by the rule.
 module _ (h : Head) (t : List ℕ) (w : Audited h t) (rule : ℕ) (m : Motion) where
@@ -88,39 +90,53 @@ module _ (h : Head) (t : List ℕ) (w : Audited h t) (rule : ℕ) (m : Motion) w
         }
 
     -- what the move asks
-    pub move_ready : (keys spare lifted : List ℕ) → Workable h t keys spare lifted → (p : ℕ) → p ≡ places_of t → Ready h.pieces p m.moves t keys spare lifted
+    pub move_ready : (p : ℕ) → p ≡ places_of t → Ready h.pieces p m.moves t
     unfolding places_of
-    move_ready keys spare lifted x p ep = record {
+    move_ready p ep = record {
       pieces = rw ep k.few;
       most = omega (arith, ep);
       room = places_fit t p p ep (omega arith);
-      memory = x.memory;
-      aside = x.aside;
-      above = x.above;
       source = omega (arith, f.source_in);
       present = all_map (λ q g. let n = holder_bound h.vessels _ g.holder_in k.sound.vessels_fit in omega arith) k.sound.sound;
     }
 
-    module _ (p : ℕ) (ep : p ≡ places_of t) (t' : List ℕ) (a : Applied) (moves : Moves h.pieces p rule m.moves t t' a) where
-      answer_is : (c : Bool) → full_now ≡ c → a ≡ cond c (refused h.pieces) (accepted m.moves r)
-      unfolding applied
-      answer_is c ec = moves.answer ∙ rw (ep, ec)
+    module _ (p : ℕ) (ep : p ≡ places_of t) (t' : List ℕ) (o : Option Applied) (moves : Moves h.pieces p rule m.moves t t' o) where
+      -- it was carried
+      module _ (a : Applied) (k : Result Applied Refusal) (ek : k ≡ ok_or o TableFull) (ea : k ≡ Ok a) where
+        some_is : (o : Option Applied) → ok_or o TableFull ≡ Ok a → o ≡ Some a
+        some_is None e = absurd (none-some a (ap result_ok e))
+        some_is (Some b) e = ap result_ok e
 
-      -- what the next head asks
-      pub move_countable : a.full ≡ false → Countable h m a
-      unfolding places_of
-      move_countable e = go full_now refl
-        where
-          go : (c : Bool) → full_now ≡ c → Countable h m a
-          go true ec = let z : true ≡ false = sym (ap (λ (y : Applied). y.full) (answer_is true ec)) ∙ e in absurd (true≢false z)
-          go false ec =
-              let u : length (handed m.moves r) ≤ places_of t = ltb-false _ _ ec in
-              let ea : a ≡ accepted m.moves r = answer_is false ec in rw ea (record {
-                few = omega arith;
-                part = omega (arith, born_is);
-                shifts = shifts;
-                tally = f.tally;
-              })
+        answer_is : (c : Bool) → full_now ≡ c → cond c None (Some (accepted m.moves r)) ≡ Some a
+        unfolding applied
+        answer_is c ec = sym (moves.answer ∙ rw (ep, ec)) ∙ some_is o (sym ek ∙ ea)
 
-      pub carries : (z : Transferred) → z ≡ concluded h m a → Carries h rule m t t' z
-      carries z ez = record { answer = ez ∙ rw (moves.answer, ep); table = moves.table ∙ rw ep }
+        -- what the next head asks
+        pub move_countable : Countable h m a
+        unfolding places_of
+        move_countable = go full_now refl
+          where
+            go : (c : Bool) → full_now ≡ c → Countable h m a
+            go true ec = absurd (none-some a (answer_is true ec))
+            go false ec =
+                let u : length (handed m.moves r) ≤ places_of t = ltb-false _ _ ec in
+                rw (← ap (λ (o : Option Applied). unwrap_or o a) (answer_is false ec)) (record {
+                  few = omega arith;
+                  part = omega (arith, born_is);
+                  shifts = shifts;
+                  tally = f.tally;
+                })
+
+        pub carries : (z : Result Carried Refusal) → z ≡ concluded h m (Some a) → Carries h rule m t t' z
+        carries z ez = record { answer = ez ∙ ap (concluded h m) (sym (some_is o (sym ek ∙ ea)) ∙ moves.answer ∙ rw ep); table = moves.table ∙ rw ep }
+
+      -- there was no place
+      module _ (k : Result Applied Refusal) (ek : k ≡ ok_or o TableFull) (e : Refusal) (ee : k ≡ Err e) where
+        none_is : (o : Option Applied) → ok_or o TableFull ≡ Err e → (o ≡ None) × (e ≡ TableFull)
+        none_is None q = (refl, sym (ap (λ (x : Option Refusal). unwrap_or x e) (ap result_err q)))
+        none_is (Some b) q = absurd (none-some e (ap result_err q))
+
+        pub carries_none : Carries h rule m t t' (Err e)
+        carries_none =
+            let n = none_is o (sym ek ∙ ee) in
+            record { answer = rw n.1 (ap (concluded h m) (sym n.0 ∙ moves.answer ∙ rw ep)); table = moves.table ∙ rw ep }

@@ -1,15 +1,17 @@
 -- Carrying a motion: what it asks and promises, and how the code makes the next head, where two balances change. proofs/Next.antt shows that this is
 -- the head of the book that the motion leaves.
 -- Definitions only. Assumes nothing.
-use Rattle.std.specs.Prelude.{◌≡◌, ◌≢◌, true, cond, List, ℕ, ◌+◌, ◌-◌, ◌*◌, ◌≤◌, ◌<◌, length}
+use Rattle.std.specs.Prelude.{◌≡◌, ◌≢◌, true, List, ℕ, ◌+◌, ◌-◌, ◌≤◌, ◌<◌, length, Option, None, Some, Result, Ok, Err}
 use Rattle.refusal.specs.Numbers.{TOP}
 use Rattle.table.specs.Table.{most_places, pieces_of, places_of}
 use Rattle.taking.specs.Taking.{taken}
 use Rattle.moving.specs.declared.Applied.{Applied}
-use Rattle.moving.specs.Applied.{lifted_places, applied, table_left}
+use Rattle.moving.specs.Applied.{applied, table_left}
 use Rattle.book.specs.declared.Head.{Head}
 use Rattle.book.specs.declared.Motion.{Motion}
-use Rattle.book.specs.declared.Transferred.{Transferred}
+use Rattle.carrying.specs.declared.Carried.{Carried}
+use Rattle.refusal.specs.declared.Refusal.{Refusal}
+use Rattle.refusal.specs.declared.Refusal.TheVariants.{TableFull}
 use Rattle.book.specs.Head.{most_holders, Sized, Shiftable, balance_at, shifted, adds_up}
 
 -- A book in memory that is known to add up.
@@ -18,14 +20,6 @@ pub record Audited (h : Head) (t : List ℕ) : Type 0 where
   pub book_adds_up : adds_up h t ≡ true
   pub sized : Sized h
 
--- What a transfer on a known book asks beside it: memory for the keys of all places, twice, and for all pieces and one more.
--- The run proves it at every movement.
-pub record Workable (h : Head) (t keys spare lifted : List ℕ) : Type 0 where
-  pub audited : Audited h t
-  pub memory : length keys ≡ most_places
-  pub aside : most_places ≤ length spare
-  pub above : 4 * lifted_places ≤ length lifted
-
 -- What carrying a motion asks, as the checks of a call see to it: two holders, room at the destination, and a count that is not full.
 pub record Carriable (h : Head) (m : Motion) : Type 0 where
   pub source_in : m.moves.source < most_holders
@@ -33,10 +27,6 @@ pub record Carriable (h : Head) (m : Motion) : Type 0 where
   pub apart : m.moves.source ≢ m.moves.destination
   pub room : balance_at h m.moves.destination + m.moves.weight ≤ TOP
   pub tally : h.accepted + m.counts ≤ TOP
-
--- a refusal: the head as given, and all other numbers 0
-abbrev pub refused_with : Head → ℕ → Transferred
-refused_with h n = record { number = n; head = h; whole = 0; split = 0; born = 0 }
 
 -- the head after the motion m, whose pieces were moved so
 abbrev pub next_head : Head → Motion → Applied → Head
@@ -52,10 +42,11 @@ pub record Countable (h : Head) (m : Motion) (a : Applied) : Type 0 where
   pub tally : h.accepted + m.counts ≤ TOP
 
 -- what is answered where the pieces were moved, or there was no place
-abbrev pub concluded : Head → Motion → Applied → Transferred
-concluded h m a = cond a.full (refused_with h 11) (record { number = 0; head = next_head h m a; whole = a.whole; split = a.split; born = a.born })
+abbrev pub concluded : Head → Motion → Option Applied → Result Carried Refusal
+concluded h m None = Err TableFull
+concluded h m (Some a) = Ok (record { head = next_head h m a; whole = a.whole; split = a.split; born = a.born })
 
 -- What carrying a motion promises, with pieces picked by a rule.
-pub record Carries (h : Head) (rule : ℕ) (m : Motion) (t t' : List ℕ) (r : Transferred) : Type 0 where
-  pub answer : r ≡ concluded h m (applied (places_of t) h.pieces m.moves (taken rule m.moves (pieces_of h.pieces t)))
+pub record Carries (h : Head) (rule : ℕ) (m : Motion) (t t' : List ℕ) (r : Result Carried Refusal) : Type 0 where
+  pub answer : r ≡ concluded h m (applied (places_of t) m.moves (taken rule m.moves (pieces_of h.pieces t)))
   pub table : t' ≡ table_left (places_of t) m.moves (taken rule m.moves (pieces_of h.pieces t)) t

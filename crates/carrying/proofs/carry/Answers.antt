@@ -1,15 +1,17 @@
 -- `carry` meets its contract: the pieces are moved, or there was no place, and the answer says which.
-use Rattle.carrying.proofs.Next.{move_ready, move_countable, carries}
+use Rattle.carrying.proofs.Next.{move_ready, move_countable, carries, carries_none}
 use Rattle.std.proofs.Common.{rules}
 use Rattle.carrying.proofs.carry.Goals as goal
 
-pub move_pieces-moved-requires : goal.move_pieces-moved-requires
-move_pieces-moved-requires c = search (rules, move_ready)
+pub move_pieces-requires : goal.move_pieces-requires
+move_pieces-requires c = search (rules, move_ready)
 
-pub conclude-requires : goal.conclude-requires
-conclude-requires c =
-    move_countable _ _ c.requires.0.audited _ _ c.requires.1 _ c.places-places.ensures _ _ c.move_pieces-moved.ensures
+pub next_head-requires : goal.next_head-requires
+next_head-requires c =
+    move_countable _ _ c.requires.0 _ _ c.requires.1 _ c.places-places.ensures _ _ c.move_pieces.ensures _ _ c.ok_or.ensures.value c.in_ok-moved.was
 
 pub returns : goal.returns
-returns c =
-    carries _ _ c.requires.0.audited _ _ c.requires.1 _ c.places-places.ensures _ _ c.move_pieces-moved.ensures _ c.conclude.ensures
+returns c = search (rules, carries)
+
+pub returns-in_err-moved : goal.returns-in_err-moved
+returns-in_err-moved c = search (rules, carries_none)
