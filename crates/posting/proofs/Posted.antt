@@ -1,13 +1,14 @@
 -- The calls: what the checks of a transfer, a lift and a tip tell lets their motion be carried, and what is answered then is the call on head and
 -- table. A transfer and a lift are one law, over the checks and the motion of what takes weight from a vessel.
 -- Assumes nothing.
+use Rattle.std.specs.Prelude.{Result, Ok, Err}
 use Rattle.std.proofs.Common.{◌≡◌, refl, sym, ap, ◌∙◌, Bool, true, false, cond, List, [], ◌∷◌, ℕ, zero, suc, ◌≤◌, ◌<◌, arith, w32, Fits, T, eqb, length, le-ltb}
 use Rattle.table.specs.Pieces.{held}
 use Rattle.table.specs.Table.{pieces_of, places_of}
 use Rattle.table.proofs.Pieces.{all_map}
 use Rattle.taking.specs.Taking.{taken}
 use Rattle.moving.specs.Applied.{full, applied, table_left}
-use Rattle.refusal.specs.Numbers.{Check, ◌if◌, first, if_zero}
+use Rattle.refusal.specs.Numbers.{TOP, Check, ◌if◌, first, if_zero}
 use Rattle.refusal.proofs.Numbers.{named, not_zero, first_append}
 use Rattle.book.specs.declared.Head.{Head}
 use Rattle.book.specs.declared.Transfer.{Transfer}
@@ -16,7 +17,7 @@ use Rattle.book.specs.declared.Tip.{Tip}
 use Rattle.book.specs.declared.Motion.{Motion}
 use Rattle.book.specs.declared.Transferred.{Transferred}
 use Rattle.book.specs.declared.Tipped.{Tipped}
-use Rattle.book.specs.Head.{Book, the_scale, most_holders, Sized, balance_at, book_of}
+use Rattle.book.specs.Head.{Book, the_scale, most_vessels, most_holders, Sized, balance_at, book_of}
 use Rattle.book.specs.Motion.{Standing, of_book, of_head, takes, pieces_after}
 use Rattle.book.specs.Transfer.{transfer_checks, motion_of}
 use Rattle.book.specs.Scale.{lift_checks, tip_checks, lift_motion, tip_motion, as_they_lie}
@@ -27,23 +28,35 @@ use Rattle.book.proofs.Checks.{Fit, fit, LiftFit, lift_fit, TipFit, tip_fit}
 use Rattle.book.proofs.Sound.{number, tip_length, keeps}
 use Rattle.book.proofs.Memory.{number_same, no_place, refused_on, accepted_on, off_number}
 use Rattle.book.proofs.Known.{Known, standing_same}
-use Rattle.carrying.specs.Carrying.{Audited, Carriable, refused_with, Carries}
-use Rattle.posting.specs.Posting.{Posts, Tips}
-use Rattle.carrying.proofs.Next.{work_known, vessels_fit, next_head_is}
+use Rattle.carrying.specs.declared.Carried.{Carried}
+use Rattle.carrying.specs.Carrying.{Audited, Carriable, Carries}
+use Rattle.refusal.specs.declared.Refusal.{Refusal}
+use Rattle.refusal.specs.Refusals.{outcome_number}
+use Rattle.posting.specs.Posting.{PostsKnown, PostsAny, refused_with, transferred, tipped, Posts, Tips}
+use Rattle.carrying.proofs.Next.{audited, work_known, vessels_fit, next_head_is}
+
+-- what is answered where the posting was refused
+transferred_refused : (h : Head) (r : Result Carried Refusal) (n : ℕ) → outcome_number r ≡ n → (n ≡ 0 → ⊥) → transferred h r ≡ refused_with h n
+transferred_refused h (Ok c) n e nz = absurd (nz (sym e))
+transferred_refused h (Err why) n e nz = ap (refused_with h) e
+
+tipped_refused : (h : Head) (r : Result Carried Refusal) (n : ℕ) → outcome_number r ≡ n → (n ≡ 0 → ⊥) → tipped h r ≡ record { number = n; head = h }
+tipped_refused h (Ok c) n e nz = absurd (nz (sym e))
+tipped_refused h (Err why) n e nz = ap (λ (n : ℕ). record { number = n; head = h }) e
 
 -- a call that is refused with number n
-posts_refusal : (h : Head) (t : List ℕ) (c : Call) (n : ℕ) (z : Transferred) → number_of h t c ≡ n → (n ≡ 0 → ⊥) → z ≡ refused_with h n → Posts h c t t z
-posts_refusal h t c n z e nz ez = let r = refused_on h t c n e nz in record { answer = rw r ez; table = rw r }
+posts_refusal : (h : Head) (t : List ℕ) (c : Call) (n : ℕ) (r : Result Carried Refusal) → number_of h t c ≡ n → (n ≡ 0 → ⊥) → outcome_number r ≡ n → Posts h c t t (transferred h r)
+posts_refusal h t c n r e nz er =
+    let u = refused_on h t c n e nz in record { answer = rw u (transferred_refused h r n er nz); table = rw u }
 
-tips_refusal : (h : Head) (t : List ℕ) (y : Tip) (n : ℕ) (z : Tipped) → number_of h t (tip y) ≡ n → (n ≡ 0 → ⊥) → z ≡ record { number = n; head = h } → Tips h y t t z
-tips_refusal h t y n z e nz ez = let r = refused_on h t (tip y) n e nz in record { answer = rw r ez; table = rw r }
+tips_refusal : (h : Head) (t : List ℕ) (y : Tip) (n : ℕ) (r : Result Carried Refusal) → number_of h t (tip y) ≡ n → (n ≡ 0 → ⊥) → outcome_number r ≡ n → Tips h y t t (tipped h r)
+tips_refusal h t y n r e nz er =
+    let u = refused_on h t (tip y) n e nz in record { answer = rw u (tipped_refused h r n er nz); table = rw u }
 
--- by 1 or 4
-pub posts_off : (h : Head) (t : List ℕ) (c : Call) (n : ℕ) (z : Transferred) → (n ≡ first (book_checks h t)) × Sized h → (n ≡ 0 → ⊥) → z ≡ refused_with h n → Posts h c t t z
-posts_off h t c n z e nz = posts_refusal h t c n z (off_number h t c n e.0 nz) nz
-
-pub tips_off : (h : Head) (t : List ℕ) (y : Tip) (n : ℕ) (z : Tipped) → (n ≡ first (book_checks h t)) × Sized h → (n ≡ 0 → ⊥) → z ≡ record { number = n; head = h } → Tips h y t t z
-tips_off h t y n z e nz = tips_refusal h t y n z (off_number h t (tip y) n e.0 nz) nz
+-- A book that 1 and 4 let pass adds up, and a posting on it is on any book.
+pub posts_on : (checks : Standing → List Check) (motion : ℕ → Motion) (rule : ℕ → ℕ) (h : Head) (t t' : List ℕ) (r : Result Carried Refusal)
+    → (0 ≡ first (book_checks h t)) × Sized h → PostsKnown checks motion rule h t t' r → PostsAny checks motion rule h t t' r
+posts_on checks motion rule h t t' r e p = record { off = λ nz. absurd (nz (sym e.0)); on = λ z. (audited h t 0 e refl, p) }
 
 -- On a book known to add up.
 module _ (h : Head) (t : List ℕ) (w : Audited h t) where
@@ -80,144 +93,174 @@ module _ (h : Head) (t : List ℕ) (w : Audited h t) where
       own : n ≡ first (checks (of_book b))
       own = en ∙ ap (λ (g : Standing). first (checks g)) standing
 
-      taking_refused : (n ≡ 0 → ⊥) → (z : Transferred) → z ≡ refused_with h n → Posts h c t t z
-      taking_refused nz z ez = posts_refusal h t c n z (number_parts ∙ rw (← own) (sym (not_zero n _ n nz))) nz ez
+      taking_refused : (n ≡ 0 → ⊥) → (r : Result Carried Refusal) → outcome_number r ≡ n → Posts h c t t (transferred h r)
+      taking_refused nz r er = posts_refusal h t c n r (number_parts ∙ rw (← own) (sym (not_zero n _ n nz))) nz er
 
       module _ (zn : n ≡ 0) (source_in : m.moves.source < most_holders) (destination_in : m.moves.destination < most_holders)
-          (t' : List ℕ) (r : Transferred) (p : Carries h h.rule m t t' r) where
+          (t' : List ℕ) (r : Result Carried Refusal) (p : Carries h h.rule m t t' r) where
         decided : number_of h t c ≡ cond full_now 11 0
         decided = number_parts ∙ rw (← own, zn)
 
         -- no place was left
-        at_full : full_now ≡ true → Posts h c t t' r
+        at_none : full_now ≡ true → outcome_number r ≡ 11
+        unfolding applied
+        at_none e = rw p.answer (rw e)
+
+        at_full : full_now ≡ true → Posts h c t t' (transferred h r)
         unfolding applied table_left
-        at_full e = rw (p.table, e) (posts_refusal h t c 11 r (decided ∙ rw e) (λ q. omega arith) (p.answer ∙ rw e))
+        at_full e = rw (p.table, e) (posts_refusal h t c 11 r (decided ∙ rw e) (λ q. omega arith) (at_none e))
 
         -- accepted
-        at_last : full_now ≡ false → Posts h c t t' r
+        at_last : full_now ≡ false → Posts h c t t' (transferred h r)
         unfolding applied table_left takes
         at_last e =
             let ea : number_of h t c ≡ 0 = decided ∙ rw e in
             let o = accepted_on h t c ea ∙ ap (λ (x : Meaning). outcome h t x 0) is in
             let s = (keeps (places_of t) b c k.sound (sym (number_same (places_of t) h t b k.on k.sound c) ∙ ea)).sound.sound in
             let u : Holders h.vessels (pieces_after b h.rule m) = all_map (λ q g. g.holder_in) (rw is at s) in
-            record { answer = rw o (p.answer ∙ rw (e, next_head_is h t w h.rule m source_in destination_in u)); table = rw o (p.table ∙ rw e) }
+            record { answer = rw o (ap (transferred h) p.answer ∙ rw (e, next_head_is h t w h.rule m source_in destination_in u)); table = rw o (p.table ∙ rw e) }
 
-        taking_done : Posts h c t t' r
+        taking_done : Posts h c t t' (transferred h r)
         taking_done = go full_now refl
           where
-            go : (x : Bool) → full_now ≡ x → Posts h c t t' r
+            go : (x : Bool) → full_now ≡ x → Posts h c t t' (transferred h r)
             go true e = at_full e
             go false e = at_last e
 
--- A transfer: what its checks tell, its refusal, and its end.
-module _ (h : Head) (t : List ℕ) (w : Audited h t) (x : Transfer) (n : ℕ) (en : n ≡ first (transfer_checks (of_head h) x)) where
-  pub post_refused : (n ≡ 0 → ⊥) → (z : Transferred) → z ≡ refused_with h n → Posts h (post x) t t z
-  unfolding transfer_checks
-  post_refused = taking_refused h t w (post x) (λ g. transfer_checks g x) (motion_of x) refl tt n en
+-- What takes weight from a vessel, on a book known to add up and on any book, where what its checks tell lets its motion be carried.
+module _ (h : Head) (t : List ℕ) (c : Call) (checks : Standing → List Check) (m : Motion) (is : meaning c ≡ taking (λ (b : Book). checks (of_book b)) m)
+    (ok : (g : Standing) → T (named (checks g)))
+    (there : h.vessels ≤ most_vessels → first (checks (of_head h)) ≡ 0 → (m.moves.source < most_holders) × (m.moves.destination < most_holders))
+    (t' : List ℕ) (r : Result Carried Refusal) where
+  posts_known : Audited h t → PostsKnown checks (λ _. m) (λ rule. rule) h t t' r → Posts h c t t' (transferred h r)
+  posts_known w p = go (first (checks (of_head h))) refl
+    where
+      go : (n : ℕ) → n ≡ first (checks (of_head h)) → Posts h c t t' (transferred h r)
+      go zero e = let u = there (vessels_fit h t w) (sym e) in taking_done h t w c checks m is (ok (of_book (book_of h t))) zero e refl u.0 u.1 t' r (p.carried (sym e))
+      go (suc n) e =
+          let q = p.refused (λ z. omega (arith, e, z)) in
+          rw (q.1) (taking_refused h t w c checks m is (ok (of_book (book_of h t))) (suc n) e (λ z. omega (arith, z)) r (q.0 ∙ sym e))
 
-  module _ (z : n ≡ 0) where
-    post_fit : Fit (of_head h) x
-    post_fit = fit (of_head h) x (sym en ∙ z)
+  posts_any : PostsAny checks (λ _. m) (λ rule. rule) h t t' r → Posts h c t t' (transferred h r)
+  posts_any p = go (first (book_checks h t)) refl
+    where
+      go : (n : ℕ) → n ≡ first (book_checks h t) → Posts h c t t' (transferred h r)
+      go zero e = let u = p.on (sym e) in posts_known u.0 u.1
+      go (suc n) e =
+          let q = p.off (λ z. omega (arith, e, z)) in
+          rw (q.1) (posts_refusal h t c (suc n) r (off_number h t c (suc n) e (λ z. omega (arith, z))) (λ z. omega (arith, z)) (q.0 ∙ sym e))
 
-    pub post_in_time : x.age ≤ x.minute
-    post_in_time = post_fit.in_time
+-- A transfer: what its checks tell.
+module _ (h : Head) (x : Transfer) where
+  transfer_fit : first (transfer_checks (of_head h) x) ≡ 0 → Fit (of_head h) x
+  transfer_fit = fit (of_head h) x
 
-    module _ (m : Motion) (em : m ≡ motion_of x) where
-      pub post_carriable : Carriable h m
-      post_carriable =
-          let f = post_fit in
-          let v = vessels_fit h t w in
-          let u = f.tally in
-          rw em (record {
-            source_in = omega (arith, f.source_in);
-            destination_in = omega (arith, f.destination_in);
-            apart = f.apart;
-            room = f.room;
-            tally = omega (arith, w.sized.tally);
-          })
+  pub transfer_in_time : first (transfer_checks (of_head h) x) ≡ 0 → x.age ≤ x.minute
+  transfer_in_time z = (transfer_fit z).in_time
 
-      pub post_done : (t' : List ℕ) (r : Transferred) → Carries h h.rule m t t' r → Posts h (post x) t t' r
-      unfolding transfer_checks
-      post_done t' r p =
-          let f = rw em at post_carriable in
-          taking_done h t w (post x) (λ g. transfer_checks g x) (motion_of x) refl tt n en z f.source_in f.destination_in t' r (rw em at p)
+  pub transfer_carriable : first (transfer_checks (of_head h) x) ≡ 0 → h.vessels ≤ most_vessels → Fits w32 h.accepted → (m : Motion) → m ≡ motion_of x → Carriable h m
+  transfer_carriable z few light m em =
+      let f = transfer_fit z in
+      let u = f.tally in
+      rw em (record {
+        source_in = omega (arith, f.source_in);
+        destination_in = omega (arith, f.destination_in);
+        apart = f.apart;
+        room = f.room;
+        tally = omega (arith, light.fits);
+      })
+
+  holders_in : h.vessels ≤ most_vessels → first (transfer_checks (of_head h) x) ≡ 0 → (x.source < most_holders) × (x.destination < most_holders)
+  holders_in few z = let f = transfer_fit z in (omega (arith, f.source_in), omega (arith, f.destination_in))
+
+  module _ (t t' : List ℕ) (r : Result Carried Refusal) (z : Transferred) (ez : z ≡ transferred h r) where
+    pub transfer_known_posts : Audited h t → PostsKnown (λ g. transfer_checks g x) (λ _. motion_of x) (λ rule. rule) h t t' r → Posts h (post x) t t' z
+    unfolding transfer_checks
+    transfer_known_posts w p = rw ez (posts_known h t (post x) (λ g. transfer_checks g x) (motion_of x) refl (λ g. tt) holders_in t' r w p)
+
+    pub transfer_posts : PostsAny (λ g. transfer_checks g x) (λ _. motion_of x) (λ rule. rule) h t t' r → Posts h (post x) t t' z
+    unfolding transfer_checks
+    transfer_posts p = rw ez (posts_any h t (post x) (λ g. transfer_checks g x) (motion_of x) refl (λ g. tt) holders_in t' r p)
 
 -- A lift: the scale is bare, so that it has room for every weight of 32 bits.
-module _ (h : Head) (t : List ℕ) (w : Audited h t) (x : Lift) (n : ℕ) (en : n ≡ first (lift_checks (of_head h) x)) where
-  pub lift_refused : (n ≡ 0 → ⊥) → (z : Transferred) → z ≡ refused_with h n → Posts h (lift x) t t z
+module _ (h : Head) (x : Lift) where
+  lift_passed : first (lift_checks (of_head h) x) ≡ 0 → LiftFit (of_head h) x
+  lift_passed = lift_fit (of_head h) x
+
+  pub lift_in_time : first (lift_checks (of_head h) x) ≡ 0 → x.age ≤ x.minute
+  lift_in_time z = (lift_passed z).in_time
+
+  pub lift_carriable : first (lift_checks (of_head h) x) ≡ 0 → h.vessels ≤ most_vessels → Fits w32 h.accepted → Fits w32 x.weight → (m : Motion) → m ≡ lift_motion x → Carriable h m
+  lift_carriable z few light weight m em =
+      let f = lift_passed z in
+      let u = f.tally in
+      rw em (record {
+        source_in = omega (arith, f.source_in);
+        destination_in = omega arith;
+        apart = λ e. omega (arith, f.source_in);
+        room = omega (arith, f.bare, weight.fits);
+        tally = omega (arith, light.fits);
+      })
+
+  pub lift_posts : (t t' : List ℕ) (r : Result Carried Refusal) (z : Transferred) → z ≡ transferred h r
+      → PostsAny (λ g. lift_checks g x) (λ _. lift_motion x) (λ rule. rule) h t t' r → Posts h (lift x) t t' z
   unfolding lift_checks
-  lift_refused = taking_refused h t w (lift x) (λ g. lift_checks g x) (lift_motion x) refl tt n en
-
-  module _ (z : n ≡ 0) where
-    fit_lift : LiftFit (of_head h) x
-    fit_lift = lift_fit (of_head h) x (sym en ∙ z)
-
-    pub lift_in_time : x.age ≤ x.minute
-    lift_in_time = fit_lift.in_time
-
-    source_in : x.source < most_holders
-    source_in = let v = vessels_fit h t w in omega (arith, fit_lift.source_in)
-
-    module _ (m : Motion) (em : m ≡ lift_motion x) where
-      pub lift_carriable : Fits w32 x.weight → Carriable h m
-      lift_carriable light =
-          let f = fit_lift in
-          let v = vessels_fit h t w in
-          let u = f.tally in
-          rw em (record {
-            source_in = source_in;
-            destination_in = omega arith;
-            apart = λ e. omega (arith, f.source_in);
-            room = omega (arith, f.bare, light.fits);
-            tally = omega (arith, w.sized.tally);
-          })
-
-      pub lift_done : (t' : List ℕ) (r : Transferred) → Carries h h.rule m t t' r → Posts h (lift x) t t' r
-      unfolding lift_checks
-      lift_done t' r p = taking_done h t w (lift x) (λ g. lift_checks g x) (lift_motion x) refl tt n en z source_in (omega arith) t' r (rw em at p)
+  lift_posts t t' r z ez p =
+      rw ez (posts_any h t (lift x) (λ g. lift_checks g x) (lift_motion x) refl (λ g. tt) (λ few q. let f = lift_passed q in (omega (arith, f.source_in), omega arith)) t' r p)
 
 -- A tip: all that is on the scale goes whole, so that there is always a place for it.
-module _ (h : Head) (t : List ℕ) (w : Audited h t) (y : Tip) (n : ℕ) (en : n ≡ first (tip_checks (of_head h) y)) where
-  tip_own : number_of h t (tip y) ≡ n
-  tip_own = number_is h t w (tip y) ∙ sym (en ∙ ap (λ (g : Standing). first (tip_checks g y)) (standing h t w))
+module _ (h : Head) (y : Tip) where
+  tip_passed : first (tip_checks (of_head h) y) ≡ 0 → TipFit (of_head h) y
+  tip_passed = tip_fit (of_head h) y
 
-  pub tip_refused : (n ≡ 0 → ⊥) → (z : Tipped) → z ≡ record { number = n; head = h } → Tips h y t t z
-  tip_refused nz z ez = tips_refusal h t y n z tip_own nz ez
+  pub tip_carriable : first (tip_checks (of_head h) y) ≡ 0 → h.vessels ≤ most_vessels → Fits w32 h.accepted → (m : Motion) → m ≡ tip_motion h.scale y → Carriable h m
+  unfolding balance_at
+  tip_carriable z few light m em =
+      let f = tip_passed z in
+      rw em (record {
+        source_in = omega arith;
+        destination_in = omega (arith, f.destination_in);
+        apart = λ e. omega (arith, f.destination_in);
+        room = f.room;
+        tally = omega (arith, light.fits);
+      })
 
-  module _ (z : n ≡ 0) (m : Motion) (em : m ≡ tip_motion h.scale y) where
-    fit_tip : TipFit (of_head h) y
-    fit_tip = tip_fit (of_head h) y (sym en ∙ z)
+  module _ (t t' : List ℕ) (r : Result Carried Refusal) where
+    module _ (w : Audited h t) where
+      tip_own : number_of h t (tip y) ≡ first (tip_checks (of_head h) y)
+      tip_own = number_is h t w (tip y) ∙ sym (ap (λ (g : Standing). first (tip_checks g y)) (standing h t w))
 
-    scale_is : h.scale ≡ held the_scale (pieces_of h.pieces t)
-    unfolding balance_at
-    scale_is = (k h t w).balance the_scale
+      tip_done : first (tip_checks (of_head h) y) ≡ 0 → Carries h as_they_lie (tip_motion h.scale y) t t' r → Tips h y t t' (tipped h r)
+      unfolding applied table_left takes balance_at
+      tip_done z p =
+          let scale_is : h.scale ≡ held the_scale (pieces_of h.pieces t) = (k h t w).balance the_scale in
+          let motion_is : tip_motion h.scale y ≡ tip_on (book_of h t) y = ap (λ (n : ℕ). tip_motion n y) scale_is in
+          let q = rw motion_is at p in
+          let b = book_of h t in
+          let e : full (places_of t) (tip_on b y).moves (taken as_they_lie (tip_on b y).moves b.pieces) ≡ false = le-ltb (places_of t) (length (pieces_after b as_they_lie (tip_on b y))) (rw (tip_length b y) (k h t w).sound.fits) in
+          let ea : number_of h t (tip y) ≡ 0 = tip_own ∙ z in
+          let o = accepted_on h t (tip y) ea in
+          let s = (keeps (places_of t) b (tip y) (k h t w).sound (sym (number_same (places_of t) h t b (k h t w).on (k h t w).sound (tip y)) ∙ ea)).sound.sound in
+          let u : Holders h.vessels (pieces_after b as_they_lie (tip_on b y)) = all_map (λ q g. g.holder_in) s in
+          let f = tip_passed z in
+          let few = vessels_fit h t w in
+          let d : y.destination < most_holders = omega (arith, f.destination_in) in
+          record { answer = rw o (ap (tipped h) q.answer ∙ rw (e, next_head_is h t w as_they_lie (tip_on b y) (omega arith) d u)); table = rw o (q.table ∙ rw e) }
 
-    motion_is : m ≡ tip_on (book_of h t) y
-    motion_is = em ∙ ap (λ (n : ℕ). tip_motion n y) scale_is
+    tip_known : Audited h t → PostsKnown (λ g. tip_checks g y) (λ weight. tip_motion weight y) (λ _. as_they_lie) h t t' r → Tips h y t t' (tipped h r)
+    tip_known w p = go (first (tip_checks (of_head h) y)) refl
+      where
+        go : (n : ℕ) → n ≡ first (tip_checks (of_head h) y) → Tips h y t t' (tipped h r)
+        go zero e = tip_done w (sym e) (p.carried (sym e))
+        go (suc n) e =
+            let q = p.refused (λ z. omega (arith, e, z)) in
+            rw (q.1) (tips_refusal h t y (suc n) r (tip_own w ∙ sym e) (λ z. omega (arith, z)) (q.0 ∙ sym e))
 
-    pub tip_carriable : Carriable h m
-    unfolding balance_at
-    tip_carriable =
-        let f = fit_tip in
-        let v = vessels_fit h t w in
-        rw em (record {
-          source_in = omega arith;
-          destination_in = omega (arith, f.destination_in);
-          apart = λ e. omega (arith, f.destination_in);
-          room = f.room;
-          tally = omega (arith, w.sized.tally);
-        })
-
-    pub tip_done : (t' : List ℕ) (r : Transferred) → Carries h as_they_lie m t t' r → (x : Tipped) → x ≡ record { number = r.number; head = r.head } → Tips h y t t' x
-    unfolding applied table_left takes
-    tip_done t' r p x ex =
-        let q = rw motion_is at p in
-        let c = rw motion_is at tip_carriable in
-        let b = book_of h t in
-        let e : full (places_of t) (tip_on b y).moves (taken as_they_lie (tip_on b y).moves b.pieces) ≡ false = le-ltb (places_of t) (length (pieces_after b as_they_lie (tip_on b y))) (rw (tip_length b y) (k h t w).sound.fits) in
-        let ea : number_of h t (tip y) ≡ 0 = tip_own ∙ z in
-        let o = accepted_on h t (tip y) ea in
-        let s = (keeps (places_of t) b (tip y) (k h t w).sound (sym (number_same (places_of t) h t b (k h t w).on (k h t w).sound (tip y)) ∙ ea)).sound.sound in
-        let u : Holders h.vessels (pieces_after b as_they_lie (tip_on b y)) = all_map (λ q g. g.holder_in) s in
-        record { answer = rw o (ex ∙ rw (q.answer, e, next_head_is h t w as_they_lie (tip_on b y) c.source_in c.destination_in u)); table = rw o (q.table ∙ rw e) }
+    pub tip_posts : (z : Tipped) → z ≡ tipped h r → PostsAny (λ g. tip_checks g y) (λ weight. tip_motion weight y) (λ _. as_they_lie) h t t' r → Tips h y t t' z
+    tip_posts z ez p = rw ez (go (first (book_checks h t)) refl)
+      where
+        go : (n : ℕ) → n ≡ first (book_checks h t) → Tips h y t t' (tipped h r)
+        go zero e = let u = p.on (sym e) in tip_known u.0 u.1
+        go (suc n) e =
+            let q = p.off (λ z. omega (arith, e, z)) in
+            rw (q.1) (tips_refusal h t y (suc n) r (off_number h t (tip y) (suc n) e (λ z. omega (arith, z))) (λ z. omega (arith, z)) (q.0 ∙ sym e))

@@ -1,18 +1,52 @@
 -- Posting: what transfer, lift and tip promise.
 -- Definitions only. Assumes nothing.
-use Rattle.std.specs.Prelude.{◌≡◌, List, ℕ}
+use Rattle.std.specs.Prelude.{◌≡◌, ◌≢◌, List, ℕ, Result, Ok, Err}
+use Rattle.refusal.specs.declared.Refusal.{Refusal}
+use Rattle.refusal.specs.Numbers.{Check, first}
+use Rattle.refusal.specs.Refusals.{number_of, outcome_number}
 use Rattle.book.specs.declared.Head.{Head}
+use Rattle.book.specs.declared.Motion.{Motion}
 use Rattle.book.specs.declared.Transferred.{Transferred}
 use Rattle.book.specs.declared.Tip.{Tip}
 use Rattle.book.specs.declared.Tipped.{Tipped}
+use Rattle.book.specs.Motion.{Standing, of_head}
 use Rattle.book.specs.Calls.{Call, tip}
-use Rattle.book.specs.Memory.{call_on, transferred, tipped}
+use Rattle.book.specs.Memory.{book_checks, call_on}
+use Rattle.book.specs.Memory as Memory
+use Rattle.carrying.specs.declared.Carried.{Carried}
+use Rattle.carrying.specs.Carrying.{Audited, Carries}
+
+-- A posting: its checks after 1 and 4, the motion that it is on a book with so much weight on its scale, and the rule by which its pieces are picked,
+-- of a book under a rule.
+module _ (checks : Standing → List Check) (motion : ℕ → Motion) (rule : ℕ → ℕ) where
+  -- On a book known to add up: it is refused by its first check that applies, and nothing is written, or its motion is carried.
+  pub record PostsKnown (h : Head) (t t' : List ℕ) (r : Result Carried Refusal) : Type 0 where
+    pub refused : first (checks (of_head h)) ≢ 0 → (outcome_number r ≡ first (checks (of_head h))) × (t' ≡ t)
+    pub carried : first (checks (of_head h)) ≡ 0 → Carries h (rule h.rule) (motion h.scale) t t' r
+
+  -- On any book: 1 and 4 come first.
+  pub record PostsAny (h : Head) (t t' : List ℕ) (r : Result Carried Refusal) : Type 0 where
+    pub off : first (book_checks h t) ≢ 0 → (outcome_number r ≡ first (book_checks h t)) × (t' ≡ t)
+    pub on : first (book_checks h t) ≡ 0 → Audited h t × PostsKnown h t t' r
+
+-- a refusal: the head as given, and all other numbers 0
+abbrev pub refused_with : Head → ℕ → Transferred
+refused_with h n = record { number = n; head = h; whole = 0; split = 0; born = 0 }
+
+-- what is answered to a transfer or a lift, and to a tip
+abbrev pub transferred : Head → Result Carried Refusal → Transferred
+transferred h (Ok c) = record { number = 0; head = c.head; whole = c.whole; split = c.split; born = c.born }
+transferred h (Err why) = refused_with h (number_of why)
+
+abbrev pub tipped : Head → Result Carried Refusal → Tipped
+tipped h (Ok c) = record { number = 0; head = c.head }
+tipped h (Err why) = record { number = number_of why; head = h }
 
 -- What a transfer or a lift promises, and what a tip does: answer and table are those of the call.
 pub record Posts (h : Head) (c : Call) (t t' : List ℕ) (r : Transferred) : Type 0 where
-  pub answer : r ≡ transferred (call_on h t c)
+  pub answer : r ≡ Memory.transferred (call_on h t c)
   pub table : t' ≡ (call_on h t c).table
 
 pub record Tips (h : Head) (y : Tip) (t t' : List ℕ) (r : Tipped) : Type 0 where
-  pub answer : r ≡ tipped (call_on h t (tip y))
+  pub answer : r ≡ Memory.tipped (call_on h t (tip y))
   pub table : t' ≡ (call_on h t (tip y)).table

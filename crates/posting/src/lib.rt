@@ -1,119 +1,141 @@
 // Posting to a book: transfer, lift and tip, each by its checks, the pieces moved, and the next head.
 #![tactic(auto)]
 
-ghost use Rattle.std.specs.Prelude.{◌≡◌};
+ghost use Rattle.std.specs.Prelude.{◌≡◌, ◌≤◌, List, ℕ};
+ghost use Rattle.refusal.specs.Numbers.{Check, first};
+ghost use Rattle.refusal.specs.Refusals.{outcome_number};
+ghost use Rattle.book.specs.declared.Motion.{Motion};
+ghost use Rattle.book.specs.Head.{most_vessels};
+ghost use Rattle.book.specs.Motion.{Standing, of_head};
 ghost use Rattle.book.specs.Calls.{post, lift};
-ghost use Rattle.carrying.specs.Carrying.{Audited, Workable};
-ghost use Rattle.posting.specs.Posting.{Posts, Tips};
+ghost use Rattle.carrying.specs.Carrying.{Audited, Carriable};
+ghost use Rattle.posting.specs.Posting.{PostsKnown, PostsAny, transferred, tipped, Posts, Tips};
 
-use book::{Head, Lift, Tip, Tipped, Transfer, Transferred};
+use book::{Head, Lift, Motion, Tip, Tipped, Transfer, Transferred};
+use carrying::Carried;
 use ledger::audit;
+use moving::Workspace;
+use refusal::Refusal;
 
-mod checks; // checks.rt: the checks after 1 and 4
+mod scale; // scale.rt: lift and tip as postings
+mod transfers; // transfers.rt: a transfer as a posting
 
-// Rule 0: the pieces on the scale leave it in the order they lie.
-const AS_THEY_LIE: u32 = 0;
+// What can be posted to a book: its checks after 1 and 4, the motion that it is, and the rule by which its pieces are picked.
+trait Posting: Copy {
+    ghost checks: { Self → Standing → List Check };
 
-// A transfer on a book that is known to add up, with memory lent to work in: checks 1 and 4 are the caller's. What that memory holds
-// afterwards is not laid down.
+    // on a book with so much weight on its scale
+    ghost motion: { Self → ℕ → Motion };
+
+    // of a book under a rule
+    ghost rule: { Self → ℕ → ℕ };
+
+    // The first of its checks that applies.
+    fn check(self, head: Head) -> Result<(), Refusal>
+        requires { head.vessels ≤ most_vessels }
+        ensures { outcome_number result ≡ first (checks self (of_head head)) };
+
+    // Its motion, where no check applies.
+    fn motion(self, head: Head) -> Motion
+        requires few_vessels { head.vessels ≤ most_vessels }
+        requires passed { first (checks self (of_head head)) ≡ 0 }
+        ensures motion { result ≡ motion self head.scale }
+        ensures carriable { Carriable head result };
+
+    fn rule(self, head: Head) -> u32
+        ensures { result ≡ rule self head.rule };
+}
+
+// A posting on a book that is known to add up, with memory lent to work in: checks 1 and 4 are the caller's.
+fn post_known<P: Posting>(
+    head: Head,
+    table: &mut [u32],
+    p: P,
+    work: &mut Workspace,
+) -> Result<Carried, Refusal>
+    requires { Audited head table.old }
+    ensures { PostsKnown (P.checks p) (P.motion p) (P.rule p) head table.old table.new result }
+{
+    p.check(head)?;
+    carrying::carry(head, table, p.rule(head), p.motion(head), work)
+}
+
+// A posting on any book.
+fn post<P: Posting>(head: Head, table: &mut [u32], p: P) -> Result<Carried, Refusal>
+    ensures { PostsAny (P.checks p) (P.motion p) (P.rule p) head table.old table.new result }
+{
+    audit::check_book(head, table)?;
+    post_known(head, table, p, &mut Workspace::new())
+}
+
+// What is answered to a transfer or a lift. A refusal has its number, the head as given, and all other numbers 0.
+fn transferred(head: Head, posted: Result<Carried, Refusal>) -> Transferred
+    ensures { result ≡ transferred head posted }
+{
+    match posted {
+        Ok(carried) => Transferred {
+            number: 0,
+            head: carried.head,
+            whole: carried.whole,
+            split: carried.split,
+            born: carried.born,
+        },
+        Err(why) => Transferred {
+            number: u32::from(why),
+            head,
+            whole: 0,
+            split: 0,
+            born: 0,
+        },
+    }
+}
+
+// What is answered to a tip.
+fn tipped(head: Head, posted: Result<Carried, Refusal>) -> Tipped
+    ensures { result ≡ tipped head posted }
+{
+    match posted {
+        Ok(carried) => Tipped {
+            number: 0,
+            head: carried.head,
+        },
+        Err(why) => Tipped {
+            number: u32::from(why),
+            head,
+        },
+    }
+}
+
+// A transfer on a book that is known to add up, with memory lent to work in.
 pub fn transfer_known(
     head: Head,
     table: &mut [u32],
     x: Transfer,
-    keys: &mut [u64],
-    spare: &mut [u64],
-    lifted: &mut [u32],
+    work: &mut Workspace,
 ) -> Transferred
-    requires { Workable head table.old keys.old spare.old lifted.old }
-    ensures { Posts head (post x) table.old table.new result }
-{
-    let number = checks::of_transfer(head, x);
-    if number != 0 {
-        return carrying::refused(head, number);
-    }
-    let m = carrying::motion_of(x);
-    carrying::carry(head, table, head.rule, m, keys, spare, lifted)
-}
-
-// A transfer on a book that checks 1 and 4 let pass.
-fn transfer_audited(head: Head, table: &mut [u32], x: Transfer) -> Transferred
     requires { Audited head table.old }
     ensures { Posts head (post x) table.old table.new result }
 {
-    let number = checks::of_transfer(head, x);
-    if number != 0 {
-        return carrying::refused(head, number);
-    }
-    let m = carrying::motion_of(x);
-    carrying::carry_alone(head, table, head.rule, m)
+    transferred(head, post_known(head, table, x, work))
 }
 
 // A transfer of weight from source to destination at a minute, with the age of what is born.
 pub fn transfer(head: Head, table: &mut [u32], x: Transfer) -> Transferred
     ensures { Posts head (post x) table.old table.new result }
 {
-    let off = audit::refusal_of(head, table);
-    if off != 0 {
-        return carrying::refused(head, off);
-    }
-    transfer_audited(head, table, x)
-}
-
-// A lift on a book that checks 1 and 4 let pass.
-fn lift_audited(head: Head, table: &mut [u32], x: Lift) -> Transferred
-    requires { Audited head table.old }
-    ensures { Posts head (lift x) table.old table.new result }
-{
-    let number = checks::of_lift(head, x);
-    if number != 0 {
-        return carrying::refused(head, number);
-    }
-    let m = carrying::lift_motion(x);
-    carrying::carry_alone(head, table, head.rule, m)
+    transferred(head, post(head, table, x))
 }
 
 // Weight taken from a vessel onto the scale at a minute, with the age of what is born.
 pub fn lift(head: Head, table: &mut [u32], x: Lift) -> Transferred
     ensures { Posts head (lift x) table.old table.new result }
 {
-    let off = audit::refusal_of(head, table);
-    if off != 0 {
-        return carrying::refused(head, off);
-    }
-    lift_audited(head, table, x)
-}
-
-// What a tip answers.
-fn tip_answer(number: u32, head: Head) -> Tipped
-    ensures { result ≡ record { number = number; head = head } }
-{
-    Tipped {
-        number: number,
-        head: head,
-    }
-}
-
-// A tip on a book that checks 1 and 4 let pass.
-fn tip_audited(head: Head, table: &mut [u32], y: Tip) -> Tipped
-    requires { Audited head table.old }
-    ensures { Tips head y table.old table.new result }
-{
-    let number = checks::of_tip(head, y);
-    if number != 0 {
-        return tip_answer(number, head);
-    }
-    let m = carrying::tip_motion(head, y);
-    let r = carrying::carry_alone(head, table, AS_THEY_LIE, m);
-    tip_answer(r.number, r.head)
+    transferred(head, post(head, table, x))
 }
 
 // All that is on the scale tipped into a vessel at a minute.
 pub fn tip(head: Head, table: &mut [u32], y: Tip) -> Tipped
     ensures { Tips head y table.old table.new result }
 {
-    let off = audit::refusal_of(head, table);
-    if off != 0 {
-        return tip_answer(off, head);
-    }
-    tip_audited(head, table, y)
+    tipped(head, post(head, table, y))
 }

@@ -30,6 +30,6 @@ number_of ScaleLoaded = 22
 number_of ScaleBare = 23
 
 -- The number of an outcome: 0, acceptance, or that of the refusal.
-abbrev pub outcome_number : Result Unit Refusal → ℕ
+abbrev pub outcome_number : {T : Type 0} → Result T Refusal → ℕ
 outcome_number (Ok x) = 0
 outcome_number (Err why) = number_of why

@@ -1,11 +1,7 @@
--- `lift` meets its contract: refused by 1 or 4, or what `lift_audited` promises.
-use Rattle.carrying.proofs.Next.{audited}
-use Rattle.posting.proofs.Posted.{posts_off}
+-- `lift` meets its contract: what is answered to its posting is the call on head and table.
+use Rattle.posting.proofs.Posted.{lift_posts}
 use Rattle.std.proofs.Common.{rules}
 use Rattle.posting.proofs.lift.Goals as goal
 
-pub returns-then-off-ne0 : goal.returns-then-off-ne0
-returns-then-off-ne0 c = search (rules, posts_off)
-
-pub lift_audited-requires : goal.lift_audited-requires
-lift_audited-requires c = search (rules, audited)
+pub returns : goal.returns
+returns c = search (rules, lift_posts)
