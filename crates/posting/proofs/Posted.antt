@@ -8,7 +8,7 @@ use Rattle.table.specs.Table.{pieces_of, places_of}
 use Rattle.table.proofs.Pieces.{all_map}
 use Rattle.taking.specs.Taking.{taken}
 use Rattle.moving.specs.Applied.{full, applied, table_left}
-use Rattle.refusal.specs.Numbers.{TOP, Check, ◌if◌, first, if_zero}
+use Rattle.refusal.specs.Numbers.{Check, ◌if◌, first, if_zero}
 use Rattle.refusal.proofs.Numbers.{named, not_zero, first_append}
 use Rattle.book.specs.declared.Head.{Head}
 use Rattle.book.specs.declared.Transfer.{Transfer}
