@@ -13,8 +13,7 @@ use Rattle.refusal.specs.Numbers.{TOP}
 use Rattle.book.specs.Head.{most_vessels}
 use Rattle.book.specs.Reports.{from_origin, held_row, born_within, spread_row, rows, onto}
 use Rattle.book.proofs.ReportLaws.{length_row, length_rows}
-use Rattle.filling.specs.declared.Pass.TheVariants.{ByOrigin, ByHolder, ByBoth}
-use Rattle.filling.specs.Scatter.{cleared, add_at, born, counted, index_of, Tallied, one_pass, Reportable}
+use Rattle.filling.specs.Scatter.{cleared, add_at, held_by, born, every, origin_of, holder_of, cell_of, Tallied, one_pass, Reportable}
 use Rattle.filling.proofs.Scattered.{scattered}
 use Rattle.filling.proofs.Square.{row_below, tally_square, cells_inside, rows_in_one_pass}
 
@@ -59,24 +58,24 @@ module _ (size : ℕ) (ps : List Piece) (k : Reportable size ps) where
   by_holder_light : (u from to v : ℕ) → sum (born_within u from to v) ps ≤ TOP
   by_holder_light u from to v = omega (arith, k.light v, part _ (weigh (in_vessel v)) (λ p. only_left (eqb p.holder v) (born u from to p) p.weight) ps)
 
-  pub held_tallied : (v : ℕ) → Tallied (counted (ByOrigin v)) (index_of (ByOrigin v)) size ps
+  pub held_tallied : (v : ℕ) → Tallied (held_by v) origin_of size ps
   held_tallied v = all_map (λ p h. (h, by_origin_light v p.origin)) k.origins
 
-  pub spread_tallied : (u from to : ℕ) → Tallied (counted (ByHolder u from to)) (index_of (ByHolder u from to)) size ps
+  pub spread_tallied : (u from to : ℕ) → Tallied (born u from to) holder_of size ps
   spread_tallied u from to = all_map (λ p h. (h, by_holder_light u from to p.holder)) k.holders
 
-  pub whole_tallied : Tallied (counted (ByBoth size)) (index_of (ByBoth size)) (size * size) ps
+  pub whole_tallied : Tallied every (cell_of size) (size * size) ps
   whole_tallied = all_both (cells_inside size k.holders k.origins) (all_map (λ p o. rw (tally_square size p.holder p.origin o k.origins) (by_origin_light p.holder p.origin)) k.origins)
 
   -- and what they leave
   module _ (r room : List ℕ) where
-    pub held_filled : (v : ℕ) → size ≤ length room → r ≡ one_pass size (ByOrigin v) room ps → r ≡ onto (held_row size v ps) room
+    pub held_filled : (v : ℕ) → size ≤ length room → r ≡ one_pass size (held_by v) origin_of room ps → r ≡ onto (held_row size v ps) room
     held_filled v fits e = e ∙ scattered _ _ size room ps fits k.origins
 
-    pub spread_filled : (u from to : ℕ) → size ≤ length room → r ≡ one_pass size (ByHolder u from to) room ps → r ≡ onto (spread_row size u from to ps) room
+    pub spread_filled : (u from to : ℕ) → size ≤ length room → r ≡ one_pass size (born u from to) holder_of room ps → r ≡ onto (spread_row size u from to ps) room
     spread_filled u from to fits e = e ∙ scattered _ _ size room ps fits k.holders
 
-    pub whole_filled : size * size ≤ length room → r ≡ one_pass (size * size) (ByBoth size) room ps → r ≡ onto (rows size 0 size ps) room
+    pub whole_filled : size * size ≤ length room → r ≡ one_pass (size * size) every (cell_of size) room ps → r ≡ onto (rows size 0 size ps) room
     whole_filled fits e = e ∙ rows_in_one_pass size room fits k.holders k.origins
 
 -- Rows one behind the other.
