@@ -18,7 +18,7 @@ trait Tally {
 
     ghost index_of: { Self → Piece → ℕ };
 
-    fn place_of(&self, p: Piece) -> Option<usize>
+    fn index(&self, p: Piece) -> Option<usize>
         ensures { result ≡ (if counted self.now p then Some (index_of self.now p) else None) };
 }
 
@@ -33,7 +33,7 @@ impl Tally for HeldBy {
 
     ghost index_of = { λ t. origin_of };
 
-    fn place_of(&self, p: Piece) -> Option<usize> {
+    fn index(&self, p: Piece) -> Option<usize> {
         (p.holder == self.vessel).then_some(p.origin as usize)
     }
 }
@@ -51,7 +51,7 @@ impl Tally for BornAt {
 
     ghost index_of = { λ t. holder_of };
 
-    fn place_of(&self, p: Piece) -> Option<usize> {
+    fn index(&self, p: Piece) -> Option<usize> {
         let counts = p.origin == self.origin && (self.from..=self.to).contains(&p.birth);
         counts.then_some(p.holder as usize)
     }
@@ -68,7 +68,7 @@ impl Tally for ByBoth {
 
     ghost index_of = { λ t. cell_of t.row };
 
-    fn place_of(&self, p: Piece) -> Option<usize> {
+    fn index(&self, p: Piece) -> Option<usize> {
         Some(p.holder as usize * self.row as usize + p.origin as usize)
     }
 }
@@ -78,7 +78,7 @@ fn enter<T: Tally>(p: Piece, tally: &T, report: &mut [u32])
     requires { Enterable (T.counted tally.now) (T.index_of tally.now) report.old p }
     ensures { report.new ≡ entered (T.counted tally.now) (T.index_of tally.now) report.old p }
 {
-    if let Some(at) = tally.place_of(p) {
+    if let Some(at) = tally.index(p) {
         report[at] += p.weight;
     }
 }
