@@ -52,7 +52,11 @@ impl Tally for BornAt {
     ghost index_of = { λ t. holder_of };
 
     fn index(&self, p: Piece) -> Option<usize> {
-        let counts = p.origin == self.origin && (self.from..=self.to).contains(&p.birth);
+        // A test of its own: most pieces are of another origin, and their births are not read.
+        if p.origin != self.origin {
+            return None;
+        }
+        let counts = (self.from..=self.to).contains(&p.birth);
         counts.then_some(p.holder as usize)
     }
 }
