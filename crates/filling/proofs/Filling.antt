@@ -1,11 +1,9 @@
 -- The loops and parts of a report: clearing its numbers, entering a piece, what a pass asks of a book's pieces and leaves, and rows one behind the other.
 -- Assumes nothing.
-use Rattle.std.proofs.Common.{◌≡◌, sym, ap, ◌∙◌, Bool, true, false, ◌&&◌, cond, List, [], ◌∷◌, ◌++◌, append_assoc, append-nil, ℕ, zero, suc, ◌+◌, ◌-◌, ◌*◌, ◌^◌, ◌≤◌, ◌<◌, zero-mul, suc-mul, mul-le-mul, add-zero, add-one, arith, w32, w64, Fits, T, leb, eqb, length, get_or, take, drop, set, replicate, length-take, length-drop, drop_of_length-le, drop-cons, get_or-set_same, take_at, drop_at, take_all, drop-drop}
+use Rattle.std.proofs.Common.{◌≡◌, sym, ap, ◌∙◌, Bool, true, false, ◌&&◌, List, [], ◌∷◌, ◌++◌, append_assoc, append-nil, ℕ, zero, suc, ◌+◌, ◌-◌, ◌*◌, ◌^◌, ◌≤◌, ◌<◌, zero-mul, suc-mul, mul-le-mul, add-zero, add-one, arith, w64, Fits, T, leb, eqb, length, take, drop, length-take, length-drop, drop_of_length-le, take_at, drop_at, take_all, drop-drop}
 use mir.Syntax.{Width}
 use mir.Val.{bits}
 use borrow.Author.Rules.{Fits-under}
-use lib.ListN.{replicate-append-replicate, length-replicate}
-use lib.Seq.{set_at, append_snoc}
 use Rattle.table.specs.declared.Piece.{Piece}
 use Rattle.table.specs.Pieces.{only, total, weigh, in_vessel, sum}
 use Rattle.table.proofs.Pieces.{all_map, all_both}
@@ -13,30 +11,9 @@ use Rattle.refusal.specs.Numbers.{TOP}
 use Rattle.book.specs.Head.{most_vessels}
 use Rattle.book.specs.Reports.{from_origin, held_row, born_within, spread_row, rows, onto}
 use Rattle.book.proofs.ReportLaws.{length_row, length_rows}
-use Rattle.filling.specs.declared.Pass.TheVariants.{ByOrigin, ByHolder, ByBoth}
-use Rattle.filling.specs.Scatter.{cleared, add_at, born, counted, index_of, Tallied, one_pass, Reportable}
+use Rattle.filling.specs.Scatter.{held_by, born, every, origin_of, holder_of, cell_of, Tallied, one_pass, Reportable}
 use Rattle.filling.proofs.Scattered.{scattered}
 use Rattle.filling.proofs.Square.{row_below, tally_square, cells_inside, rows_in_one_pass}
-
--- clearing: a turn and the end
-pub clear_next : (i n : ℕ) (r₀ r : List ℕ) → i < n → n ≤ length r₀ → r ≡ cleared i r₀ → set r i 0 ≡ cleared (i + 1) r₀
-clear_next i n r₀ r h l e =
-    let behind = drop (suc i) r₀ in
-    rw (e, ← (replicate-append-replicate {A = ℕ} i 1 0), add-one, drop-cons r₀ i 0 (omega arith)) (set_at (replicate i 0) (get_or r₀ i 0) behind 0 i (length-replicate i 0) ∙ sym (append_snoc (replicate i 0) 0 behind))
-
-pub clear_end : (i n : ℕ) (r₀ r : List ℕ) → i ≤ n → n ≤ i → r ≡ cleared i r₀ → r ≡ cleared n r₀
-clear_end i n r₀ r a b e = let q : n ≡ i = omega arith in rw q e
-
--- entering a piece, with the answer b to whether it counts: the sum fits, and the two cases
-module _ (r : List ℕ) (i w : ℕ) (b c : Bool) (e : b ≡ c) where
-  pub enter_fits : b ≡ true → (j : ℕ) → j ≡ i → i < length r → get_or (cond c (add_at r i w) r) i 0 ≤ TOP → Fits w32 (get_or r j 0 + w)
-  enter_fits y j ej h k = let k' : get_or (add_at r i w) i 0 ≤ TOP = rw (← e, y) at k in rw ej (record { fits = omega (arith, get_or-set_same r i (get_or r i 0 + w) 0 h) })
-
-  pub enter_yes : b ≡ true → (j : ℕ) → j ≡ i → add_at r j w ≡ cond c (add_at r i w) r
-  enter_yes y j ej = rw (ej, ← e, y)
-
-  pub enter_no : b ≡ false → r ≡ cond c (add_at r i w) r
-  enter_no y = rw (← e, y)
 
 -- What the passes over a book's pieces ask: the pieces that one counts at an index are some of those that a vessel holds.
 part : (f g : Piece → ℕ) → ((p : Piece) → f p ≤ g p) → (ps : List Piece) → total f ps ≤ total g ps
@@ -59,24 +36,24 @@ module _ (size : ℕ) (ps : List Piece) (k : Reportable size ps) where
   by_holder_light : (u from to v : ℕ) → sum (born_within u from to v) ps ≤ TOP
   by_holder_light u from to v = omega (arith, k.light v, part _ (weigh (in_vessel v)) (λ p. only_left (eqb p.holder v) (born u from to p) p.weight) ps)
 
-  pub held_tallied : (v : ℕ) → Tallied (counted (ByOrigin v)) (index_of (ByOrigin v)) size ps
+  pub held_tallied : (v : ℕ) → Tallied (held_by v) origin_of size ps
   held_tallied v = all_map (λ p h. (h, by_origin_light v p.origin)) k.origins
 
-  pub spread_tallied : (u from to : ℕ) → Tallied (counted (ByHolder u from to)) (index_of (ByHolder u from to)) size ps
+  pub spread_tallied : (u from to : ℕ) → Tallied (born u from to) holder_of size ps
   spread_tallied u from to = all_map (λ p h. (h, by_holder_light u from to p.holder)) k.holders
 
-  pub whole_tallied : Tallied (counted (ByBoth size)) (index_of (ByBoth size)) (size * size) ps
+  pub whole_tallied : Tallied every (cell_of size) (size * size) ps
   whole_tallied = all_both (cells_inside size k.holders k.origins) (all_map (λ p o. rw (tally_square size p.holder p.origin o k.origins) (by_origin_light p.holder p.origin)) k.origins)
 
   -- and what they leave
   module _ (r room : List ℕ) where
-    pub held_filled : (v : ℕ) → size ≤ length room → r ≡ one_pass size (ByOrigin v) room ps → r ≡ onto (held_row size v ps) room
+    pub held_filled : (v : ℕ) → size ≤ length room → r ≡ one_pass size (held_by v) origin_of room ps → r ≡ onto (held_row size v ps) room
     held_filled v fits e = e ∙ scattered _ _ size room ps fits k.origins
 
-    pub spread_filled : (u from to : ℕ) → size ≤ length room → r ≡ one_pass size (ByHolder u from to) room ps → r ≡ onto (spread_row size u from to ps) room
+    pub spread_filled : (u from to : ℕ) → size ≤ length room → r ≡ one_pass size (born u from to) holder_of room ps → r ≡ onto (spread_row size u from to ps) room
     spread_filled u from to fits e = e ∙ scattered _ _ size room ps fits k.holders
 
-    pub whole_filled : size * size ≤ length room → r ≡ one_pass (size * size) (ByBoth size) room ps → r ≡ onto (rows size 0 size ps) room
+    pub whole_filled : size * size ≤ length room → r ≡ one_pass (size * size) every (cell_of size) room ps → r ≡ onto (rows size 0 size ps) room
     whole_filled fits e = e ∙ rows_in_one_pass size room fits k.holders k.origins
 
 -- Rows one behind the other.

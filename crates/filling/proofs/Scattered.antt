@@ -12,14 +12,9 @@ use Rattle.table.proofs.Table.{length_pieces}
 use Rattle.refusal.specs.Numbers.{TOP}
 use Rattle.book.specs.Head.{tab}
 use Rattle.book.specs.Reports.{onto}
-use Rattle.filling.specs.declared.Pass.{Pass}
 use Rattle.filling.specs.Scatter.{cleared, add_at, entered, scatter, tally, Enterable, Fillable, Tallied}
 use Rattle.book.proofs.BalanceLaws.{length_tab}
 use Rattle.book.proofs.ReportLaws.{row_at}
-
--- the arm of a `match` tells which pass it is: what f says of that one, it says of the pass
-pub told : {A : Type 0} (f : Pass → Piece → A) (pass q : Pass) (p : Piece) (x : A) → pass ≡ q → x ≡ f q p → x ≡ f pass p
-told f pass q p x e y = rw e y
 
 -- what holds of every piece holds of the one at a place
 pub all_at : {P : Piece → Type 0} {ps : List Piece} → All P ps → (i : ℕ) → i < length ps → P (get_or ps i no_piece)

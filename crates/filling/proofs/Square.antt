@@ -11,8 +11,7 @@ use Rattle.book.specs.Head.{tab}
 use Rattle.book.specs.declared.Report.TheVariants.{Whole}
 use Rattle.book.specs.Reports.{from_origin, held_row, rows, report_row, onto}
 use Rattle.book.proofs.BalanceLaws.{tab_append, tab_same}
-use Rattle.filling.specs.declared.Pass.TheVariants.{ByBoth}
-use Rattle.filling.specs.Scatter.{counted, index_of, tally, one_pass}
+use Rattle.filling.specs.Scatter.{every, cell_of, tally, one_pass}
 use Rattle.filling.proofs.Scattered.{scattered}
 
 -- of numbers of 32 bits the product fits 64, and so does a number more
@@ -49,7 +48,7 @@ module _ (m v u w x : ℕ) (hu : u < m) (hx : x < m) where
       go false eb c ec = ne_eqb (v * m + u) (w * m + x) (λ e. eqb-false u x eb (same_cell e).1)
 
 -- what is entered there is the weight of origin u in vessel v
-pub tally_square : (m v u : ℕ) → u < m → {ps : List Piece} → All (λ p. p.origin < m) ps → tally (counted (ByBoth m)) (index_of (ByBoth m)) ps (v * m + u) ≡ sum (from_origin v u) ps
+pub tally_square : (m v u : ℕ) → u < m → {ps : List Piece} → All (λ p. p.origin < m) ps → tally every (cell_of m) ps (v * m + u) ≡ sum (from_origin v u) ps
 tally_square m v u h done = refl
 tally_square m v u h (also {p = p} g x) =
     omega (arith, ap (λ (b : Bool). only (b && true) p.weight) (cell m p.holder p.origin v u g h), go (eqb p.origin u && eqb p.holder v), tally_square m v u h x)
@@ -61,7 +60,7 @@ tally_square m v u h (also {p = p} g x) =
 -- rows are the square
 module _ (m : ℕ) (ps : List Piece) (o : All (λ p. p.origin < m) ps) where
   abbrev cells : ℕ → ℕ
-  cells = tally (counted (ByBoth m)) (index_of (ByBoth m)) ps
+  cells = tally every (cell_of m) ps
 
   rows_from : (v n : ℕ) → rows m v n ps ≡ tab cells (v * m) (n * m)
   unfolding rows tab
@@ -75,10 +74,10 @@ module _ (m : ℕ) (ps : List Piece) (o : All (λ p. p.origin < m) ps) where
   rows_square = rows_from 0 m ∙ rw zero-mul
 
 -- the cells of a book's pieces lie in the square
-pub cells_inside : (m : ℕ) {ps : List Piece} → All (λ p. p.holder < m) ps → All (λ p. p.origin < m) ps → All (λ p. index_of (ByBoth m) p < m * m) ps
+pub cells_inside : (m : ℕ) {ps : List Piece} → All (λ p. p.holder < m) ps → All (λ p. p.origin < m) ps → All (λ p. cell_of m p < m * m) ps
 cells_inside m h o = all_map (λ p (below, inside). omega (arith, row_below m p.holder m below)) (all_both h o)
 
 -- ONE PASS: "go over the pieces once and add each where it belongs." Over numbers cleared before, that is the whole report.
 pub rows_in_one_pass : (m : ℕ) (room : List ℕ) {ps : List Piece} → m * m ≤ length room → All (λ p. p.holder < m) ps → All (λ p. p.origin < m) ps
-    → one_pass (m * m) (ByBoth m) room ps ≡ onto (report_row m ps Whole) room
+    → one_pass (m * m) every (cell_of m) room ps ≡ onto (report_row m ps Whole) room
 rows_in_one_pass m room {ps} fits h o = scattered _ _ (m * m) room ps fits (cells_inside m h o) ∙ ap (λ (w : List ℕ). onto w room) (sym (rows_square m ps o))

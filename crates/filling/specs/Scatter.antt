@@ -7,8 +7,6 @@ use Rattle.table.specs.declared.Piece.{Piece}
 use Rattle.table.specs.Pieces.{only, total, held, All}
 use Rattle.refusal.specs.Numbers.{TOP}
 use Rattle.book.specs.Head.{most_vessels}
-use Rattle.filling.specs.declared.Pass.{Pass}
-use Rattle.filling.specs.declared.Pass.TheVariants.{ByOrigin, ByHolder, ByBoth}
 
 -- the first n numbers 0, and the others as they were
 abbrev pub cleared : ℕ → List ℕ → List ℕ
@@ -40,23 +38,28 @@ Fillable test at r ps = All (λ p. (at p < length r) × (get_or (scatter test at
 abbrev pub Tallied : (Piece → Bool) → (Piece → ℕ) → ℕ → List Piece → Type 0
 Tallied test at size ps = All (λ p. (at p < size) × (tally test at ps (at p) ≤ TOP)) ps
 
--- the passes of src/lib.rt: which pieces count, and at which number each is entered
+-- the tallies of src/lib.rt: which pieces count, and at which number each is entered
+abbrev pub held_by : ℕ → Piece → Bool
+held_by v p = eqb p.holder v
+
+abbrev pub origin_of : Piece → ℕ
+origin_of p = p.origin
+
 abbrev pub born : ℕ → ℕ → ℕ → Piece → Bool
 born u from to p = eqb p.origin u && (leb from p.birth && leb p.birth to)
 
-abbrev pub counted : Pass → Piece → Bool
-counted (ByOrigin v) p = eqb p.holder v
-counted (ByHolder u from to) p = born u from to p
-counted (ByBoth row) p = true
+abbrev pub holder_of : Piece → ℕ
+holder_of p = p.holder
 
-abbrev pub index_of : Pass → Piece → ℕ
-index_of (ByOrigin v) p = p.origin
-index_of (ByHolder u from to) p = p.holder
-index_of (ByBoth row) p = p.holder * row + p.origin
+abbrev pub every : Piece → Bool
+every p = true
+
+abbrev pub cell_of : ℕ → Piece → ℕ
+cell_of row p = p.holder * row + p.origin
 
 -- what a pass leaves of the room: so many numbers cleared, then the pieces entered
-abbrev pub one_pass : ℕ → Pass → List ℕ → List Piece → List ℕ
-one_pass size pass room ps = scatter (counted pass) (index_of pass) (cleared size room) ps
+abbrev pub one_pass : ℕ → (Piece → Bool) → (Piece → ℕ) → List ℕ → List Piece → List ℕ
+one_pass size test at room ps = scatter test at (cleared size room) ps
 
 -- what the code knows of the pieces of a book that adds up and has nothing on the scale
 pub record Reportable (size : ℕ) (ps : List Piece) : Type 0 where

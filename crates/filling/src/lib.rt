@@ -2,105 +2,108 @@
 // row by row.
 #![tactic(auto)]
 
-ghost use Rattle.std.specs.Prelude.{◌≡◌, ◌≤◌, ◌*◌, length};
+ghost use Rattle.std.specs.Prelude.{◌≡◌, ◌≤◌, ◌*◌, Bool, if◌then◌else◌, ℕ, length};
+ghost use Rattle.table.specs.declared.Piece.{Piece};
 ghost use Rattle.table.specs.Table.{pieces_of};
 ghost use Rattle.refusal.specs.Numbers.{first};
 ghost use Rattle.book.specs.Reports.{held_row, rows, report_row, report_checks, onto};
-ghost use Rattle.filling.specs.Scatter.{cleared, born, counted, index_of, entered, scatter, Enterable, Fillable, Tallied, one_pass, Reportable};
+ghost use Rattle.filling.specs.Scatter.{held_by, born, every, origin_of, holder_of, cell_of, entered, scatter, Enterable, Fillable, Tallied, one_pass, Reportable};
 
 use book::Report;
 use table::Piece;
 
-// A pass over the pieces: which of them count, and at which number each is entered.
+// What a report adds up: which pieces count, and at which number of the room each is entered.
+trait Tally {
+    ghost counted: { Self → Piece → Bool };
+
+    ghost index_of: { Self → Piece → ℕ };
+
+    fn index(&self, p: Piece) -> Option<usize>
+        ensures { result ≡ (if counted self.now p then Some (index_of self.now p) else None) };
+}
+
+// The pieces that a vessel holds, each at its origin.
 #[derive(Clone, Copy)]
-enum Pass {
-    // the pieces that a vessel holds, each at its origin
-    ByOrigin(u32),
-    // the pieces born at an origin from a minute to a minute, each at its holder
-    ByHolder(u32, u32, u32),
-    // all pieces, each at its origin in the row of its holder; a row has so many numbers
-    ByBoth(u32),
+struct HeldBy {
+    vessel: u32,
 }
 
-// The first n numbers become 0.
-fn clear(report: &mut [u32], n: usize)
-    requires { n ≤ length report.old }
-    ensures { report.new ≡ cleared n report.old }
-{
-    let mut i: usize = 0;
-    while i < n {
-        report[i] = 0;
-        i += 1;
+impl Tally for HeldBy {
+    ghost counted = { λ t. held_by t.vessel };
+
+    ghost index_of = { λ t. origin_of };
+
+    fn index(&self, p: Piece) -> Option<usize> {
+        (p.holder == self.vessel).then_some(p.origin as usize)
     }
 }
 
-// Whether the piece was born at the origin in the span.
-fn is_born(p: Piece, origin: u32, from: u32, to: u32) -> bool
-    ensures { result ≡ born origin from to p }
-{
-    if p.origin != origin {
-        return false;
-    }
-    if p.birth < from {
-        return false;
-    }
-    p.birth <= to
+// The pieces born at an origin from a minute to a minute, each at its holder.
+#[derive(Clone, Copy)]
+struct BornAt {
+    origin: u32,
+    from: u32,
+    to: u32,
 }
 
-// Whether the piece counts in the pass.
-fn counts(pass: Pass, p: Piece) -> bool
-    ensures { result ≡ counted pass p }
-{
-    match pass {
-        Pass::ByOrigin(vessel) => p.holder == vessel,
-        Pass::ByHolder(origin, from, to) => is_born(p, origin, from, to),
-        Pass::ByBoth(_) => true,
+impl Tally for BornAt {
+    ghost counted = { λ t. born t.origin t.from t.to };
+
+    ghost index_of = { λ t. holder_of };
+
+    fn index(&self, p: Piece) -> Option<usize> {
+        // A test of its own: most pieces are of another origin, and their births are not read.
+        if p.origin != self.origin {
+            return None;
+        }
+        let counts = (self.from..=self.to).contains(&p.birth);
+        counts.then_some(p.holder as usize)
     }
 }
 
-// The number at which the piece is entered.
-fn index(pass: Pass, p: Piece) -> usize
-    ensures { result ≡ index_of pass p }
-{
-    match pass {
-        Pass::ByOrigin(_) => p.origin as usize,
-        Pass::ByHolder(_, _, _) => p.holder as usize,
-        Pass::ByBoth(row) => p.holder as usize * row as usize + p.origin as usize,
+// All pieces, each at its origin in the row of its holder; a row has so many numbers.
+#[derive(Clone, Copy)]
+struct ByBoth {
+    row: u32,
+}
+
+impl Tally for ByBoth {
+    ghost counted = { λ t. every };
+
+    ghost index_of = { λ t. cell_of t.row };
+
+    fn index(&self, p: Piece) -> Option<usize> {
+        Some(p.holder as usize * self.row as usize + p.origin as usize)
     }
 }
 
 // The piece is entered, if it counts.
-fn enter(p: Piece, pass: Pass, report: &mut [u32])
-    requires { Enterable (counted pass) (index_of pass) report.old p }
-    ensures { report.new ≡ entered (counted pass) (index_of pass) report.old p }
+fn enter<T: Tally>(p: Piece, tally: &T, report: &mut [u32])
+    requires { Enterable (T.counted tally.now) (T.index_of tally.now) report.old p }
+    ensures { report.new ≡ entered (T.counted tally.now) (T.index_of tally.now) report.old p }
 {
-    if counts(pass, p) {
-        let at = index(pass, p);
-        report[at] = report[at] + p.weight;
-        return;
+    if let Some(at) = tally.index(p) {
+        report[at] += p.weight;
     }
 }
 
 // The pieces that count are entered.
-fn add(table: &[u32], n: usize, pass: Pass, report: &mut [u32])
-    requires { (4 * n ≤ length table.now) × Fillable (counted pass) (index_of pass) report.old (pieces_of n table.now) }
-    ensures { report.new ≡ scatter (counted pass) (index_of pass) report.old (pieces_of n table.now) }
+fn add<T: Tally>(table: &[u32], n: usize, tally: &T, report: &mut [u32])
+    requires { (4 * n ≤ length table.now) × Fillable (T.counted tally.now) (T.index_of tally.now) report.old (pieces_of n table.now) }
+    ensures { report.new ≡ scatter (T.counted tally.now) (T.index_of tally.now) report.old (pieces_of n table.now) }
 {
-    let mut i: usize = 0;
-    while i < n {
-        let p = table::piece_at(table, n, i);
-        enter(p, pass, report);
-        i += 1;
+    for i in 0..n {
+        enter(table::piece_at(table, n, i), tally, report);
     }
 }
 
-// The first numbers of the room: cleared, then filled by a pass.
-fn fill_pass(table: &[u32], n: usize, size: usize, pass: Pass, report: &mut [u32])
-    requires { (4 * n ≤ length table.now) × (size ≤ length report.old) × Tallied (counted pass) (index_of pass) size (pieces_of n table.now) }
-    ensures { report.new ≡ one_pass size pass report.old (pieces_of n table.now) }
+// The first numbers of the room become 0, and the pieces that count are entered there.
+fn fill_pass<T: Tally>(table: &[u32], n: usize, size: usize, tally: &T, report: &mut [u32])
+    requires { (4 * n ≤ length table.now) × (size ≤ length report.old) × Tallied (T.counted tally.now) (T.index_of tally.now) size (pieces_of n table.now) }
+    ensures { report.new ≡ one_pass size (T.counted tally.now) (T.index_of tally.now) report.old (pieces_of n table.now) }
 {
-    clear(report, size);
-    add(table, n, pass, report);
+    report[..size].fill(0);
+    add(table, n, tally, report);
 }
 
 // The held report of a vessel, at the start of the room.
@@ -108,7 +111,7 @@ fn fill_held(table: &[u32], n: usize, vessels: u32, vessel: u32, report: &mut [u
     requires { (4 * n ≤ length table.now) × (vessels ≤ length report.old) × Reportable vessels (pieces_of n table.now) }
     ensures { report.new ≡ onto (held_row vessels vessel (pieces_of n table.now)) report.old }
 {
-    fill_pass(table, n, vessels as usize, Pass::ByOrigin(vessel), report);
+    fill_pass(table, n, vessels as usize, &HeldBy { vessel }, report);
 }
 
 // The rows of all vessels, in one pass.
@@ -117,7 +120,7 @@ fn fill_whole(table: &[u32], n: usize, vessels: u32, report: &mut [u32])
     ensures { report.new ≡ onto (rows vessels 0 vessels (pieces_of n table.now)) report.old }
 {
     let row = vessels as usize;
-    fill_pass(table, n, row * row, Pass::ByBoth(vessels), report);
+    fill_pass(table, n, row * row, &ByBoth { row: vessels }, report);
 }
 
 // The same, row by row: the part of the room from a vessel's row on is lent to its held report.
@@ -125,11 +128,9 @@ pub fn fill_rows(table: &[u32], n: usize, vessels: u32, report: &mut [u32])
     requires { (4 * n ≤ length table.now) × (vessels * vessels ≤ length report.old) × Reportable vessels (pieces_of n table.now) }
     ensures { report.new ≡ onto (rows vessels 0 vessels (pieces_of n table.now)) report.old }
 {
-    let mut v: u32 = 0;
-    while v < vessels {
+    for v in 0..vessels {
         let at = (v * vessels) as usize;
         fill_held(table, n, vessels, v, &mut report[at..]);
-        v += 1;
     }
 }
 
@@ -142,8 +143,13 @@ pub fn fill(table: &[u32], n: usize, vessels: u32, asked: Report, room: &mut [u3
     match asked {
         Report::Held(vessel) => fill_held(table, n, vessels, vessel, room),
         Report::Spread(origin, from, to) => {
-            let pass = Pass::ByHolder(origin, from, to);
-            fill_pass(table, n, vessels as usize, pass, room)
+            fill_pass(
+                table,
+                n,
+                vessels as usize,
+                &BornAt { origin, from, to },
+                room,
+            )
         }
         Report::Whole => fill_whole(table, n, vessels, room),
     }

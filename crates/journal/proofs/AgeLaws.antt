@@ -35,11 +35,10 @@ age_compared l n e = rw e
 
 -- Where the scan stands before call i of n: the calls that are left tell whether an age is off.
 pub record Scanned (n : ℕ) (l : List ℕ) (i : ℕ) : Type 0 where
-  pub inside : i ≤ n
   pub left : ages_off (n - i) (drop (call_size * i) l) ≡ ages_off n l
 
 pub scan_start : (n : ℕ) (l : List ℕ) → Scanned n l 0
-scan_start n l = record { inside = omega arith; left = rw sub-zero }
+scan_start n l = record { left = rw sub-zero }
 
 module _ (n : ℕ) (l : List ℕ) (i : ℕ) (s : Scanned n l i) where
   pub scan_turn : i < n → (r : Bool) → r ≡ age_off (drop (call_size * i) l) → r ≡ false → Scanned n l (i + 1)
@@ -47,7 +46,7 @@ module _ (n : ℕ) (l : List ℕ) (i : ℕ) (s : Scanned n l i) where
   scan_turn h r er e =
       let d : n - i ≡ suc (n - (i + 1)) = omega arith in
       let k : call_size * i + call_size ≡ call_size * (i + 1) = omega arith in
-      record { inside = omega arith; left = rw (← k, ← drop-drop call_size (call_size * i) l) (rw (d, ← er, e) at s.left) }
+      record { left = rw (← k, ← drop-drop call_size (call_size * i) l) (rw (d, ← er, e) at s.left) }
 
   pub scan_found : i < n → (r : Bool) → r ≡ age_off (drop (call_size * i) l) → r ≡ true → true ≡ ages_off n l
   unfolding ages_off

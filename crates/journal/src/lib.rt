@@ -1,7 +1,7 @@
 // A list of calls carried out on a fresh book, from a lent slice of numbers.
 #![tactic(auto)]
 
-ghost use Rattle.std.specs.Prelude.{◌≡◌, false, ◌≤◌, ◌<◌, ◌+◌, ◌*◌, min, length, get_or, drop};
+ghost use Rattle.std.specs.Prelude.{◌≡◌, false, ◌≤◌, ◌<◌, ◌+◌, ◌*◌, length, get_or, drop};
 ghost use Rattle.book.specs.Transfer.{most_age};
 ghost use Rattle.book.specs.Calls.{post, lift, tip};
 ghost use Rattle.journal.specs.Carried.{call_size, report_of, transfer_in, lift_in, tip_in, report_in, call_in, age_in, age_off, ages_off, Made, Makes, MakesAll, CarriesOut};
@@ -184,12 +184,10 @@ fn ages_off(n: usize, calls: &[u32]) -> bool
     requires { call_size * n ≤ length calls.now }
     ensures { result ≡ ages_off n calls.now }
 {
-    let mut i: usize = 0;
-    while i < n {
+    for i in 0..n {
         if age_off(calls, CALL_SIZE * i) {
             return true;
         }
-        i += 1;
     }
     false
 }
@@ -208,24 +206,12 @@ fn call_all(
         table.new answers.new room.new result }
 {
     let mut head = fresh;
-    let mut i: usize = 0;
-    while i < n {
+    for i in 0..n {
         let r = call_at(head, table, calls, CALL_SIZE * i, room);
         answers[i] = r.number;
-        let next = r.head;
-        head = next;
-        i += 1;
+        head = r.head;
     }
     head
-}
-
-fn least(a: usize, b: usize) -> usize
-    ensures { (result ≤ a) × (result ≤ b) × (result ≡ min a b) }
-{
-    if a < b {
-        return a;
-    }
-    b
 }
 
 // Opens a book and carries out the calls, as many as there are numbers and room for answers. A list with an age that is none is refused
@@ -245,7 +231,7 @@ pub fn carry_out(
     if opened.number != 0 {
         return opened;
     }
-    let n = least(calls.len() / CALL_SIZE, answers.len());
+    let n = (calls.len() / CALL_SIZE).min(answers.len());
     if ages_off(n, calls) {
         return opening::refused(refusal::AGE_OVER);
     }

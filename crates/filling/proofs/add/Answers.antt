@@ -4,10 +4,10 @@ use Rattle.filling.proofs.Scattered.{may_enter, scatter_next, scatter_end}
 use Rattle.filling.proofs.add.Goals as goal
 
 pub enter-requires : goal.enter-requires
-enter-requires c = search (rules, may_enter)
+enter-requires g c = search (rules, may_enter)
 
 pub loop-i-preserved : goal.loop-i-preserved
-loop-i-preserved c = (search rules, search rules, search (rules, scatter_next))
+loop-i-preserved g c = (search rules, search (rules, scatter_next))
 
 pub returns : goal.returns
-returns c = search (rules, scatter_end)
+returns g c = search (rules, scatter_end)

@@ -4,4 +4,4 @@ use Rattle.std.proofs.Common.{rules}
 use Rattle.filling.proofs.fill_pass.Goals as goal
 
 pub add-requires : goal.add-requires
-add-requires c = search (rules, fillable)
+add-requires g c = search (rules, fillable)

@@ -4,7 +4,7 @@ use Rattle.filling.proofs.Filling.{rows_none, rows_next}
 use Rattle.filling.proofs.fill_rows.Goals as goal
 
 pub loop-v-init : goal.loop-v-init
-loop-v-init c = (search rules, refl, rows_none c.args.vessels _ _)
+loop-v-init c = (refl, rows_none c.args.vessels _ _)
 
 pub loop-v-preserved : goal.loop-v-preserved
-loop-v-preserved c = (search rules, search (rules, ◌∙◌), search (rules, rows_next))
+loop-v-preserved c = (search (rules, ◌∙◌), search (rules, rows_next))

@@ -1,12 +1,9 @@
 -- `filling::fill_rows` meets its contract. The invariant: the rows of the vessels below v are written, and what is behind them is as it was.
 -- A turn lends the part from row v on to the held report, which writes the row at its start.
-use Rattle.std.proofs.Common.{◌*◌, ◌-◌, ◌≤◌, ◌≡◌, ◌++◌, length, drop}
+use Rattle.std.proofs.Common.{◌*◌, ◌≡◌, ◌++◌, length, drop}
 use Rattle.table.specs.Table.{pieces_of}
 use Rattle.book.specs.Reports.{rows}
 use Rattle.filling.proofs.fill_rows.Given as goal
 
 abbrev pub invariant-loop-v : goal.invariant-loop-v
-invariant-loop-v l = (l.v ≤ l.vessels) × (length l.report ≡ length l.initial.report) × (l.report ≡ rows l.vessels 0 l.v (pieces_of l.n l.table) ++ drop (l.v * l.vessels) l.initial.report)
-
-abbrev pub decreases-loop-v : goal.decreases-loop-v
-decreases-loop-v l = l.vessels - l.v
+invariant-loop-v l = (length l.report ≡ length l.initial.report) × (l.report ≡ rows l.vessels 0 l.v (pieces_of l.n l.table) ++ drop (l.v * l.vessels) l.initial.report)

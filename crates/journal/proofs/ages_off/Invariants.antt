@@ -1,11 +1,6 @@
 -- `ages_off` meets its contract. The invariant: the calls that are left tell whether some age is off.
--- A turn leaves one call less.
-use Rattle.std.proofs.Common.{◌-◌}
 use Rattle.journal.proofs.AgeLaws.{Scanned}
 use Rattle.journal.proofs.ages_off.Given as goal
 
 abbrev pub invariant-loop-i : goal.invariant-loop-i
 invariant-loop-i l = Scanned l.n l.calls l.i
-
-abbrev pub decreases-loop-i : goal.decreases-loop-i
-decreases-loop-i l = l.n - l.i
