@@ -1,14 +1,17 @@
 -- A report on head and table: its refusals, and its acceptance on a book known to add up. One law for all three reports.
 -- Assumes nothing.
-use Rattle.std.proofs.Common.{◌≡◌, refl, sym, ap, ◌∙◌, false, List, ◌∷◌, ℕ, ◌*◌, ◌≤◌, ◌<◌, zero, suc, arith, ltb, length, lt-ltb, le-ltb, ltb-false}
+use Rattle.std.proofs.Common.{◌≡◌, refl, sym, ap, ◌∙◌, false, List, ◌∷◌, ℕ, ◌*◌, ◌≤◌, zero, suc, arith, ltb, length, ltb-false}
 use Rattle.table.specs.Pieces.{held}
 use Rattle.table.specs.Table.{pieces_of, places_of}
 use Rattle.table.proofs.Pieces.{all_map}
-use Rattle.refusal.specs.Numbers.{Check, first}
+use Rattle.refusal.specs.Numbers.{first}
+use Rattle.refusal.specs.declared.Refusal.{Refusal}
+use Rattle.refusal.specs.Refusals as Refusals
 use Rattle.refusal.proofs.Numbers.{past}
+use Rattle.refusal.proofs.Refusals.{some_number}
 use Rattle.book.specs.declared.Head.{Head}
 use Rattle.book.specs.declared.Reported.{Reported}
-use Rattle.book.specs.Head.{the_scale, Sized, balance_at, book_of}
+use Rattle.book.specs.Head.{the_scale, Sized, book_of}
 use Rattle.book.specs.Motion.{Standing, of_head, loaded}
 use Rattle.book.specs.Calls.{ask, meaning}
 use Rattle.book.specs.Memory.{outcome, book_checks, number_of, call_on}
@@ -22,33 +25,23 @@ use Rattle.book.proofs.Known.{Known, adds_up_told, adds_head, known, standing_sa
 use Rattle.reports.specs.Asking.{Judged, Asks}
 use Rattle.filling.specs.Scatter.{Reportable}
 
--- 22, as the head tells it
-module _ (h : Head) (cs : List Check) where
-  pub scale_loaded : 0 < h.scale → 22 ≡ first (loaded (of_head h) ∷ cs)
-  unfolding balance_at
-  scale_loaded e = rw (lt-ltb _ _ e)
-
-  pub scale_bare : (n : ℕ) → n ≡ first cs → h.scale ≤ 0 → n ≡ first (loaded (of_head h) ∷ cs)
-  unfolding balance_at
-  scale_bare n en e = rw (le-ltb _ _ e) en
-
 module _ (h : Head) (t : List ℕ) (q : Report) (room : List ℕ) where
   -- its number, as checks 1 and 4 find it
   pub asked_off : (n : ℕ) → (n ≡ first (book_checks h t)) × Sized h → (n ≡ 0 → ⊥) → Judged h q t room n
   asked_off n (e, sized) nz = record { number = sym (off_number h t (ask q room) n e nz); sized = sized }
 
-  -- and as its own do, past checks 1 and 4, which gave m
-  pub asked_on : (m n : ℕ) → (m ≡ first (book_checks h t)) × Sized h → m ≡ 0 → n ≡ first (loaded (of_head h) ∷ report_checks h.vessels (length room) q) → Judged h q t room n
-  asked_on m n em zm en =
+  -- and as its own do, past checks 1 and 4
+  pub asked_on : (0 ≡ first (book_checks h t)) × Sized h → (n : ℕ) → n ≡ first (loaded (of_head h) ∷ report_checks h.vessels (length room) q) → Judged h q t room n
+  asked_on up n en =
       let own : n ≡ first ((meaning (ask q room)).checks (places_of t) (book_of h t)) =
-      en ∙ ap (λ (g : Standing). first (loaded g ∷ report_checks h.vessels (length room) q)) (standing_same h t (known h t m em zm)) in
-      record { number = own ∙ sym (on_number h t (ask q room) m em.0 zm); sized = em.1 }
+      en ∙ ap (λ (g : Standing). first (loaded g ∷ report_checks h.vessels (length room) q)) (standing_same h t (known h t 0 up refl)) in
+      record { number = own ∙ sym (on_number h t (ask q room) 0 up.0 refl); sized = up.1 }
+
+  -- refused
+  pub asked_refused : (why : Refusal) → Judged h q t room (Refusals.number_of why) → (n : ℕ) → n ≡ Refusals.number_of why → Asks h q t room room (record { number = n; head = h })
+  asked_refused why e n en = rw en (let r = refused_on h t (ask q room) (Refusals.number_of why) (sym e.number) (some_number why) in record { answer = rw r; room = rw r })
 
   module _ (n : ℕ) (e : Judged h q t room n) where
-    -- refused
-    pub asked_refused : (n ≡ 0 → ⊥) → (z : Reported) → z ≡ record { number = n; head = h } → Asks h q t room room z
-    asked_refused nz z ez = let r = refused_on h t (ask q room) n (sym e.number) nz in record { answer = rw r ez; room = rw r }
-
     -- accepted: what writing it asks, and what is written
     module _ (zn : n ≡ 0) where
       passed_all : number_of h t (ask q room) ≡ 0

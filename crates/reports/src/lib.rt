@@ -2,91 +2,73 @@
 #![tactic(auto)]
 
 ghost use Rattle.std.specs.Prelude.{◌≡◌, ◌∷◌};
-ghost use Rattle.refusal.specs.Numbers.{first};
-ghost use Rattle.book.specs.declared.Report.TheVariants.{Held, Spread, Whole};
 ghost use Rattle.book.specs.Motion.{of_head, loaded};
+ghost use Rattle.refusal.specs.Numbers.{first};
+ghost use Rattle.refusal.specs.Refusals.{outcome_number};
+ghost use Rattle.book.specs.declared.Report.TheVariants.{Held, Spread, Whole};
 ghost use Rattle.book.specs.Reports.{report_checks};
 ghost use Rattle.reports.specs.Asking.{Judged, Asks};
 
 use book::{Head, Report, Reported};
 use ledger::audit;
+use refusal::Refusal;
 
-fn answer(number: u32, head: Head) -> Reported
-    ensures { result ≡ record { number = number; head = head } }
+// The checks after 1 and 4.
+#[tactic(auto, unfolding(book::specs::Reports::report_checks, book::specs::Head::balance_at))]
+fn check_asked(head: Head, asked: Report, room: usize) -> Result<(), Refusal>
+    ensures { outcome_number result ≡ first (loaded (of_head head) ∷ report_checks head.vessels room asked) }
 {
-    Reported {
-        number: number,
-        head: head,
+    if 0 < head.scale {
+        return Err(Refusal::ScaleLoaded);
     }
-}
-
-// The checks after 1, 4 and 22.
-fn refusal_to(asked: Report, vessels: u32, room: usize) -> u32
-    ensures { result ≡ first (report_checks vessels room asked) }
-{
+    let vessels = head.vessels;
     let row = vessels as usize;
-    match asked {
+    let needed = match asked {
         Report::Held(vessel) => {
             if vessels <= vessel {
-                return refusal::NO_VESSEL;
+                return Err(Refusal::NoVessel);
             }
-            if room < row {
-                return refusal::REPORT_SHORT;
-            }
-            return 0;
+            row
         }
         Report::Spread(origin, from, to) => {
             if vessels <= origin {
-                return refusal::NO_VESSEL;
+                return Err(Refusal::NoVessel);
             }
             if to < from {
-                return refusal::SPAN_BACK;
+                return Err(Refusal::SpanBack);
             }
-            if room < row {
-                return refusal::REPORT_SHORT;
-            }
-            return 0;
+            row
         }
-        Report::Whole => {
-            if room < row * row {
-                return refusal::REPORT_SHORT;
-            }
-            return 0;
-        }
+        Report::Whole => row * row,
+    };
+    if room < needed {
+        return Err(Refusal::ReportShort);
     }
-}
-
-// The checks of a report on a book that adds up: 22, then its own.
-fn refusal_on(head: Head, asked: Report, room: usize) -> u32
-    ensures { result ≡ first (loaded (of_head head) ∷ report_checks head.vessels room asked) }
-{
-    if 0 < head.scale {
-        return refusal::SCALE_LOADED;
-    }
-    refusal_to(asked, head.vessels, room)
+    Ok(())
 }
 
 // All checks of a report.
-fn refusal_of(head: Head, table: &[u32], asked: Report, room: &[u32]) -> u32
-    ensures { Judged head asked table.now room.now result }
+fn check(head: Head, table: &[u32], asked: Report, room: &[u32]) -> Result<(), Refusal>
+    ensures { Judged head asked table.now room.now (outcome_number result) }
 {
-    let off = audit::refusal_of(head, table);
-    if off != 0 {
-        return off;
-    }
-    refusal_on(head, asked, room.len())
+    audit::check_book(head, table)?;
+    check_asked(head, asked, room.len())
 }
 
 // What is asked of the book, written to the room.
 pub fn report(head: Head, table: &[u32], asked: Report, room: &mut [u32]) -> Reported
     ensures { Asks head asked table.now room.old room.new result }
 {
-    let number = refusal_of(head, table, asked, room);
-    if number != 0 {
-        return answer(number, head);
+    match check(head, table, asked, room) {
+        Ok(()) => {
+            filling::fill(table, head.pieces as usize, head.vessels, asked, room);
+            Reported { number: 0, head }
+        }
+        Err(why) => Reported {
+            number: u32::from(why),
+            head,
+        },
     }
-    filling::fill(table, head.pieces as usize, head.vessels, asked, room);
-    answer(0, head)
 }
 
 // The weight by origin in a vessel.
@@ -121,10 +103,14 @@ pub fn whole(head: Head, table: &[u32], room: &mut [u32]) -> Reported
 pub fn whole_by_rows(head: Head, table: &[u32], room: &mut [u32]) -> Reported
     ensures { Asks head Whole table.now room.old room.new result }
 {
-    let number = refusal_of(head, table, Report::Whole, room);
-    if number != 0 {
-        return answer(number, head);
+    match check(head, table, Report::Whole, room) {
+        Ok(()) => {
+            filling::fill_rows(table, head.pieces as usize, head.vessels, room);
+            Reported { number: 0, head }
+        }
+        Err(why) => Reported {
+            number: u32::from(why),
+            head,
+        },
     }
-    filling::fill_rows(table, head.pieces as usize, head.vessels, room);
-    answer(0, head)
 }
