@@ -2,6 +2,8 @@
 // what follows of that is shown in proofs/; the code is in the crates above, and no call keeps anything between two calls.
 #![tactic(auto)]
 
+ghost use Rattle.std.specs.Prelude.{◌≡◌};
+
 use taking::Move;
 
 // A head holds a balance for each vessel that a book can have.
@@ -105,4 +107,26 @@ pub enum Report {
 pub struct Reported {
     pub number: u32,
     pub head: Head,
+}
+
+impl From<Transferred> for Reported {
+    ghost from_gives = { λ r z. z ≡ record { number = r.number; head = r.head } };
+
+    fn from(r: Transferred) -> Reported {
+        Reported {
+            number: r.number,
+            head: r.head,
+        }
+    }
+}
+
+impl From<Tipped> for Reported {
+    ghost from_gives = { λ r z. z ≡ record { number = r.number; head = r.head } };
+
+    fn from(r: Tipped) -> Reported {
+        Reported {
+            number: r.number,
+            head: r.head,
+        }
+    }
 }

@@ -1,79 +1,34 @@
 -- Calls carried out in turn from numbers: which call the numbers are, the loop by what is left, and that what is left is the journal of
 -- the calls, so that demand 3 holds of it.
 -- Assumes nothing.
-use Rattle.std.proofs.Common.{◌≡◌, refl, sym, ap, ◌∙◌, Bool, true, false, cond, List, [], ◌∷◌, ◌++◌, append_assoc, append-nil, ℕ, zero, suc, ◌+◌, ◌-◌, ◌*◌, ◌≤◌, ◌<◌, add-one, arith, length, get_or, set, take, drop, length-set, take-append-drop, drop-drop, take-suc-set, drop-set-lt, ne_eqb}
+use Rattle.std.proofs.Common.{◌≡◌, refl, sym, ap, ◌∙◌, Bool, true, false, cond, List, [], ◌∷◌, ◌++◌, append_assoc, append-nil, ℕ, zero, suc, ◌+◌, ◌-◌, ◌*◌, ◌≤◌, ◌<◌, add-one, arith, length, set, take, drop, length-set, take-append-drop, drop-drop, take-suc-set, drop-set-lt}
 use native.Mathlib.Nat.{sub-zero}
-use Rattle.refusal.specs.Numbers.{◌if◌, first, if_zero}
-use Rattle.refusal.proofs.Numbers.{not_zero, first_append}
+use Rattle.refusal.specs.Numbers.{◌if◌, first}
+use Rattle.refusal.specs.declared.Refusal.{Refusal}
+use Rattle.refusal.specs.Refusals.{number_of}
+use Rattle.refusal.proofs.Numbers.{refuses, passes, passed_first, passed_second}
+use Rattle.refusal.proofs.Refusals.{some_number}
+use Rattle.std.specs.Prelude.{Result, Ok}
 use Rattle.book.specs.declared.Head.{Head}
 use Rattle.book.specs.declared.Opened.{Opened}
-use Rattle.book.specs.declared.Transferred.{Transferred}
 use Rattle.book.specs.declared.Reported.{Reported}
-use Rattle.book.specs.Head.{not_opened, open_checks, opens, opening}
+use Rattle.book.specs.Head.{empty_head, not_opened, open_checks, opening}
 use Rattle.book.specs.declared.Report.{Report}
-use Rattle.book.specs.declared.Transfer.{Transfer}
-use Rattle.book.specs.declared.Lift.{Lift}
-use Rattle.book.specs.declared.Tip.{Tip}
-use Rattle.book.specs.declared.Tipped.{Tipped}
-use Rattle.book.specs.Transfer.{transfer_of}
-use Rattle.book.specs.Scale.{lift_of, tip_of}
-use Rattle.book.specs.Calls.{Call, post, lift, tip}
+use Rattle.book.specs.Calls.{ask}
 use Rattle.book.specs.Memory.{call_on}
 use Rattle.book.specs.Lists.{calls_on}
-use Rattle.posting.specs.Posting.{Posts, Tips}
 use Rattle.reports.specs.Asking.{Asks}
-use Rattle.journal.specs.Carried.{call_size, report_of, transfer_in, lift_in, tip_in, report_in, call_in, ages_off, room_left, Made, Makes, Carried, carried, MakesAll, calls_in, count_calls, carry_number, CarriesOut}
+use Rattle.journal.specs.Carried.{call_size, call_in, ages_off, room_left, Makes, Carried, carried, MakesAll, calls_in, count_calls, carry_number, CarriesOut}
 use Rattle.reports.proofs.Asked.{asked_nothing}
+use Rattle.book.proofs.HeadLaws.{open_accepted}
 use Rattle.book.proofs.Lists.{demand_3}
+use Rattle.journal.specs.declared.Call as Read
+use Rattle.journal.specs.Reading.{call_read, called}
+use Rattle.journal.proofs.Reading.{rest, rest_is, read_on, called_is}
 
--- the calls in six numbers that were read one by one
-module _ (l : List ℕ) (a b c d e : ℕ) (ea : a ≡ get_or l 1 0) (eb : b ≡ get_or l 2 0) where
-  pub tip_read : tip_of a b ≡ tip_in l
-  tip_read = rw (ea, eb)
-
-  pub lift_read : c ≡ get_or l 3 0 → d ≡ get_or l 4 0 → lift_of a b c d ≡ lift_in l
-  lift_read ec ed = rw (ea, eb, ec, ed)
-
-  pub transfer_read : c ≡ get_or l 3 0 → d ≡ get_or l 4 0 → e ≡ get_or l 5 0 → transfer_of a b c d e ≡ transfer_in l
-  transfer_read ec ed ee = rw (ea, eb, ec, ed, ee)
-
-pub report_read : (l : List ℕ) (k a b c : ℕ) (q : Report) → k ≡ get_or l 0 0 → a ≡ get_or l 1 0 → b ≡ get_or l 2 0 → c ≡ get_or l 3 0 → q ≡ report_of k a b c → q ≡ report_in l
-report_read l k a b c q ek ea eb ec e = e ∙ rw (ek, ea, eb, ec)
-
--- what a transfer, a lift and a tip promise is what a call promises
-module _ (h : Head) (t l t' : List ℕ) where
-  made_post : (c : Call) (z : Transferred) → Posts h c t t' z → Made h c t t' (record { number = z.number; head = z.head })
-  made_post c z p = record { answer = ap (λ (z : Transferred). record { number = z.number; head = z.head }) p.answer; table = p.table }
-
-  pub made_transfer : (x : Transfer) → x ≡ transfer_in l → (z : Transferred) → Posts h (post x) t t' z → Made h (post (transfer_in l)) t t' (record { number = z.number; head = z.head })
-  made_transfer x ex z p = made_post (post (transfer_in l)) z (rw ex at p)
-
-  pub made_lift : (x : Lift) → x ≡ lift_in l → (z : Transferred) → Posts h (lift x) t t' z → Made h (lift (lift_in l)) t t' (record { number = z.number; head = z.head })
-  made_lift x ex z p = made_post (lift (lift_in l)) z (rw ex at p)
-
-  pub made_tip : (y : Tip) → y ≡ tip_in l → (z : Tipped) → Tips h y t t' z → Made h (tip (tip_in l)) t t' (record { number = z.number; head = z.head })
-  made_tip y ey z p = let q = rw ey at p in record { answer = ap (λ (z : Tipped). record { number = z.number; head = z.head }) q.answer; table = q.table }
-
--- the kind tells the call
-module _ (h : Head) (t l room : List ℕ) (n : ℕ) (e : n ≡ get_or l 0 0) where
-  module _ (t' : List ℕ) (z : Reported) where
-    pub is_transfer : n ≡ 0 → Made h (post (transfer_in l)) t t' z → Makes h (call_in l room) t room t' room z
-    unfolding call_in
-    is_transfer q m = rw (← e, q) (record { answer = m.answer; table = m.table; room = refl })
-
-    pub is_lift : (n ≡ 0 → ⊥) → n ≡ 4 → Made h (lift (lift_in l)) t t' z → Makes h (call_in l room) t room t' room z
-    unfolding call_in
-    is_lift nt q m = rw (← e, q) (record { answer = m.answer; table = m.table; room = refl })
-
-    pub is_tip : (n ≡ 0 → ⊥) → (n ≡ 4 → ⊥) → n ≡ 5 → Made h (tip (tip_in l)) t t' z → Makes h (call_in l room) t room t' room z
-    unfolding call_in
-    is_tip nt nl q m = rw (← e, q) (record { answer = m.answer; table = m.table; room = refl })
-
-  pub is_report : (n ≡ 0 → ⊥) → (n ≡ 4 → ⊥) → (n ≡ 5 → ⊥) → (q : Report) → q ≡ report_in l → (z : Reported) (r' : List ℕ)
-      → Asks h q t room r' z → Makes h (call_in l room) t room t r' z
-  unfolding call_in
-  is_report nt nl np q eq z r' p =
-      rw (← eq, ← e, ne_eqb n 0 nt, ne_eqb n 4 nl, ne_eqb n 5 np) (record { answer = p.answer; table = sym (asked_nothing h t q room).1; room = p.room })
+-- a report as a call
+pub made_report : (h : Head) (t room : List ℕ) (q : Report) (z : Reported) (r' : List ℕ) → Asks h q t room r' z → Makes h (ask q room) t room t r' z
+made_report h t room q z r' p = record { answer = p.answer; table = sym (asked_nothing h t q room).1; room = p.room }
 
 -- Where carrying out stands before call i of n: the numbers so far and those that are left make the whole, and so do head, table and room.
 pub record Going (n : ℕ) (l : List ℕ) (h₀ : Head) (t₀ a₀ r₀ : List ℕ) (h : Head) (t a r : List ℕ) (i : ℕ) : Type 0 where
@@ -104,10 +59,11 @@ module _ (n : ℕ) (l : List ℕ) (h₀ : Head) (t₀ a₀ r₀ : List ℕ) (h :
   abbrev all : Carried
   all = carried n l h₀ t₀ r₀
 
-  pub going_next : (z : Reported) (t' r' : List ℕ) → i < n → n ≤ length a₀ → Makes h (call_in (drop (call_size * i) l) r) t r t' r' z → length t' ≡ length t → length r' ≡ length r
+  pub going_next : (z : Reported) (t' r' : List ℕ) → i < n → n ≤ length a₀ → (k : Result Read.Call Refusal) → k ≡ call_read (rest (call_size * i) l) → (c : Read.Call) → k ≡ Ok c → Makes h (called c r) t r t' r' z → length t' ≡ length t → length r' ≡ length r
       → Going n l h₀ t₀ a₀ r₀ z.head t' (set a i z.number) r' (i + 1)
   unfolding carried
-  going_next z t' r' q m made lt lr =
+  going_next z t' r' q m k ek c ec p lt lr =
+      let made : Makes h (call_in (drop (call_size * i) l) r) t r t' r' z = rw ((read_on _ c (rw (rest_is (call_size * i) l) at (sym ek ∙ ec))).1, called_is (drop (call_size * i) l) r) at p in
       let d : n - i ≡ suc (n - suc i) = omega arith in
       let size : call_size * i + call_size ≡ call_size * suc i = omega arith in
       let k : drop call_size (drop (call_size * i) l) ≡ drop (call_size * suc i) l = drop-drop call_size (call_size * i) l ∙ ap (λ (j : ℕ). drop j l) size in
@@ -152,49 +108,50 @@ journal_is (suc n) l h t r =
     let o = call_on h t c in
     journal_is n (drop call_size l) o.head o.table (room_left c o r)
 
+-- the checks of a list, by those of opening and by its ages
+module _ (rule size : ℕ) (b : Bool) where
+  pub list_unopened : (n : ℕ) → n ≡ first (open_checks rule size) → (n ≡ 0 → ⊥) → n ≡ first (open_checks rule size ++ (18 if b) ∷ [])
+  list_unopened n e nz = refuses (open_checks rule size) (18 if b ∷ []) tt n e nz
+
+  pub list_opened : 0 ≡ first (open_checks rule size) → (n : ℕ) → n ≡ cond b 18 0 → n ≡ first (open_checks rule size ++ (18 if b) ∷ [])
+  list_opened e n en = passes (open_checks rule size) (18 if b ∷ []) tt 0 n e refl (en ∙ go b)
+    where
+      go : (b : Bool) → cond b 18 0 ≡ first (18 if b ∷ [])
+      go true = refl
+      go false = refl
+
 -- `carry_out`, at its returns
-module _ (rule size : ℕ) (l t a r : List ℕ) (o : Opened) (eo : o ≡ opening rule size) where
-  -- its number, by that of opening
-  number_parts : carry_number rule size l a ≡ if_zero o.number (cond (ages_off (count_calls l a) l) 18 0) o.number
-  unfolding carry_number opening
-  number_parts = first_append (open_checks rule size) (18 if ages_off (count_calls l a) l ∷ []) tt ∙ rw eo (go (first (open_checks rule size)) (ages_off (count_calls l a) l))
-    where
-      go : (n : ℕ) (off : Bool) → if_zero n (first (18 if off ∷ [])) n ≡ if_zero (opens rule size n).number (cond off 18 0) (opens rule size n).number
-      go zero true = refl
-      go zero false = refl
-      go (suc n) off = refl
+module _ (rule size : ℕ) (l t a r : List ℕ) (n : ℕ) (en : n ≡ count_calls l a) where
+  number_parts : carry_number rule size l a ≡ first (open_checks rule size ++ (18 if ages_off n l) ∷ [])
+  unfolding carry_number
+  number_parts = rw en
 
-  -- refused with this number, which is that of the list
-  list_refused : (n : ℕ) → carry_number rule size l a ≡ n → (n ≡ 0 → ⊥) → (z : Opened) → z ≡ not_opened n → CarriesOut rule size l t a r z t a r
-  list_refused n e nz z ez = record { refused = λ u. (rw e ez, refl, refl, refl); done = λ u. absurd (nz (sym e ∙ u)); demand = λ u. absurd (nz (sym e ∙ u)) }
+  pub carry_refused : (why : Refusal) → number_of why ≡ first (open_checks rule size ++ (18 if ages_off n l) ∷ []) → (z : Opened) → z ≡ not_opened (number_of why) → CarriesOut rule size l t a r z t a r
+  carry_refused why e z ez =
+      let k : carry_number rule size l a ≡ number_of why = number_parts ∙ sym e in
+      record { refused = λ u. (rw k ez, refl, refl, refl); done = λ u. absurd (some_number why (sym k ∙ u)); demand = λ u. absurd (some_number why (sym k ∙ u)) }
 
-  unopened : (o.number ≡ 0 → ⊥) → o ≡ not_opened o.number
-  unfolding opening
-  unopened nz = go (first (open_checks rule size)) eo
-    where
-      go : (n : ℕ) → o ≡ opens rule size n → o ≡ not_opened o.number
-      go zero e = absurd (nz (ap (λ (x : Opened). x.number) e))
-      go (suc n) e = rw e
+  module _ (e : 0 ≡ first (open_checks rule size ++ (18 if ages_off n l) ∷ [])) where
+    opens_well : first (open_checks rule size) ≡ 0
+    opens_well = passed_first (open_checks rule size) (18 if ages_off n l ∷ []) tt (sym e)
 
-  pub carry_unopened : (o.number ≡ 0 → ⊥) → CarriesOut rule size l t a r o t a r
-  carry_unopened nz = list_refused o.number (number_parts ∙ sym (not_zero o.number _ o.number nz)) nz o (unopened nz)
+    pub carry_ready : ages_off n l ≡ false
+    carry_ready = go (ages_off n l) (passed_second (open_checks rule size) (18 if ages_off n l ∷ []) tt (sym e))
+      where
+        go : (b : Bool) → first (18 if b ∷ []) ≡ 0 → b ≡ false
+        go true e = absurd (omega (arith, e))
+        go false e = refl
 
-  module _ (z : o.number ≡ 0) (n : ℕ) (en : n ≡ count_calls l a) (off : Bool) (eoff : off ≡ ages_off n l) where
-    pub carry_refused : off ≡ true → (x : Opened) → x ≡ not_opened 18 → CarriesOut rule size l t a r x t a r
-    carry_refused h x ex = list_refused 18 (number_parts ∙ rw (z, ← en, ← eoff, h)) (λ q. omega arith) x ex
-
-    pub carry_ready : off ≡ false → ages_off n l ≡ false
-    carry_ready h = sym eoff ∙ h
-
-    pub carry_done : off ≡ false → (h : Head) (t' a' r' : List ℕ)
-        → MakesAll n l o.head t a r t' a' r' h → CarriesOut rule size l t a r (record { number = 0; head = h }) t' a' r'
-    carry_done free h t' a' r' p =
-        let e : carry_number rule size l a ≡ 0 = number_parts ∙ rw (z, ← en, ← eoff, free) in
-        let f = ap (λ (x : Opened). x.head) eo in
+    pub carry_done : (h h' : Head) → h ≡ empty_head rule size → (t' a' r' : List ℕ)
+        → MakesAll n l h t a r t' a' r' h' → CarriesOut rule size l t a r (record { number = 0; head = h' }) t' a' r'
+    carry_done h h' eh t' a' r' p =
+        let k : carry_number rule size l a ≡ 0 = number_parts ∙ sym e in
+        let o : record { number = 0; head = h } ≡ opening rule size = open_accepted rule size 0 (record { number = 0; head = h }) (sym opens_well) refl h eh in
+        let f : h ≡ (opening rule size).head = ap (λ (x : Opened). x.head) o in
         let j = journal_is (count_calls l a) l (opening rule size).head t r in
         let q = rw (en, f) at p in
         record {
-          refused = λ u. absurd (u e);
+          refused = λ u. absurd (u k);
           done = λ u. (ap (λ (x : Head). record { number = 0; head = x }) q.head, q.table, q.answers, q.room);
-          demand = λ u. (q.head ∙ j.0, q.table ∙ j.1, demand_3 rule size (sym (ap (λ (x : Opened). x.number) eo) ∙ z) t _);
+          demand = λ u. (q.head ∙ j.0, q.table ∙ j.1, demand_3 rule size (sym (ap (λ (x : Opened). x.number) o)) t _);
         }

@@ -1,3 +1,3 @@
-pub mod AgeLaws
+pub mod Reading
 pub mod Carrying
 pub mod WhichCall

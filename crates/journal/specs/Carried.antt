@@ -64,11 +64,6 @@ room_left (lift x) o room = room
 room_left (tip y) o room = room
 room_left (ask q r) o room = o.room
 
--- What one call that writes to no room promises: its number and the next head, and the table after it.
-pub record Made (h : Head) (c : Call) (t t' : List ℕ) (z : Reported) : Type 0 where
-  pub answer : z ≡ reported (call_on h t c)
-  pub table : t' ≡ (call_on h t c).table
-
 -- What any call promises: its number and the next head, and table and room after it.
 pub record Makes (h : Head) (c : Call) (t r t' r' : List ℕ) (z : Reported) : Type 0 where
   pub answer : z ≡ reported (call_on h t c)

@@ -1,13 +1,13 @@
--- `journal::carry_out` meets its contract: a refused opening, an age that is off, or all calls made, of which demand 3 holds.
-use Rattle.journal.proofs.Carrying.{carry_unopened, carry_refused, carry_done}
-use Rattle.std.proofs.Common.{rules}
+-- `journal::carry_out` meets its contract: a refused list, or all calls made, of which demand 3 holds.
+use Rattle.journal.proofs.Carrying.{carry_refused, carry_ready, carry_done}
+use Rattle.std.proofs.Common.{arith}
 use Rattle.journal.proofs.carry_out.Goals as goal
 
-pub returns-then-opened-ne0 : goal.returns-then-opened-ne0
-returns-then-opened-ne0 c = carry_unopened _ _ _ _ _ _ _ c.open-opened.ensures c.if-opened-ne0.true
+pub returns-in-Err : goal.returns-in-Err
+returns-in-Err c = carry_refused c.args.rule c.args.vessels _ _ _ _ _ c.min-n.ensures _ c.in-Err.ensures _ c.refused.ensures
 
-pub returns-then-ages_off : goal.returns-then-ages_off
-returns-then-ages_off c = search (rules, carry_refused)
+pub returns-in-Ok : goal.returns-in-Ok
+returns-in-Ok c = carry_done c.args.rule c.args.vessels _ _ _ _ _ c.min-n.ensures c.in-Ok.ensures _ _ c.empty_head-fresh.ensures _ _ _ c.call_all-head.ensures
 
-pub returns : goal.returns
-returns c = search (rules, carry_done)
+pub call_all-head-requires : goal.call_all-head-requires
+call_all-head-requires c = (omega arith, omega arith, carry_ready c.args.rule c.args.vessels _ c.args.table.now _ c.args.room.now _ c.min-n.ensures c.in-Ok.ensures)

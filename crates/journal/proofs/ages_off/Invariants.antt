@@ -1,6 +1,0 @@
--- `ages_off` meets its contract. The invariant: the calls that are left tell whether some age is off.
-use Rattle.journal.proofs.AgeLaws.{Scanned}
-use Rattle.journal.proofs.ages_off.Given as goal
-
-abbrev pub invariant-loop-i : goal.invariant-loop-i
-invariant-loop-i l = Scanned l.n l.calls l.i
