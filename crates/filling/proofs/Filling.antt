@@ -1,20 +1,16 @@
 -- The loops and parts of a report: clearing its numbers, entering a piece, what a pass asks of a book's pieces and leaves, and rows one behind the other.
 -- Assumes nothing.
-use Rattle.std.proofs.Common.{◌≡◌, sym, ap, ◌∙◌, Bool, true, false, ◌&&◌, List, [], ◌∷◌, ◌++◌, append_assoc, append-nil, ℕ, zero, suc, ◌+◌, ◌*◌, ◌^◌, ◌≤◌, ◌<◌, zero-mul, suc-mul, mul-le-mul, add-zero, add-one, arith, w64, Fits, T, leb, eqb, length, take, drop, drop_of_length-le, take_at, drop_at, drop-drop}
-use mir.Syntax.{Width}
-use mir.Val.{bits}
-use borrow.Author.Rules.{Fits-under}
+use Rattle.std.proofs.Common.{◌≡◌, sym, ap, ◌∙◌, Bool, true, false, ◌&&◌, List, [], ◌∷◌, ◌++◌, append_assoc, append-nil, ℕ, zero, suc, ◌+◌, ◌*◌, ◌≤◌, zero-mul, suc-mul, add-zero, add-one, arith, eqb, length, take, drop, drop_of_length-le, take_at, drop_at, drop-drop}
 use Rattle.table.specs.declared.Piece.{Piece}
 use Rattle.table.specs.Pieces.{only, total, weigh, in_vessel, sum}
 use Rattle.table.proofs.Pieces.{all_map, all_both}
 use Rattle.refusal.specs.Numbers.{TOP}
-use Rattle.book.specs.Head.{most_vessels}
 use Rattle.book.specs.Reports.{from_origin, held_row, born_within, spread_row, rows, onto}
 use Rattle.book.proofs.BalanceLaws.{length_tab}
 use Rattle.book.proofs.ReportLaws.{length_row, length_rows}
 use Rattle.filling.specs.Scatter.{held_by, born, every, origin_of, holder_of, cell_of, Tallied, one_pass, Reportable}
 use Rattle.filling.proofs.Scattered.{scattered}
-use Rattle.filling.proofs.Square.{row_below, tally_square, cells_inside, rows_in_one_pass}
+use Rattle.filling.proofs.Square.{tally_square, cells_inside, rows_in_one_pass}
 
 -- What the passes over a book's pieces ask: the pieces that one counts at an index are some of those that a vessel holds.
 part : (f g : Piece → ℕ) → ((p : Piece) → f p ≤ g p) → (ps : List Piece) → total f ps ≤ total g ps
@@ -71,25 +67,7 @@ rows_snoc size v (suc n) ps =
     let k : suc v + n ≡ v + suc n = omega arith in
     ap (λ (l : List ℕ). held_row size v ps ++ l) (rows_snoc size (suc v) n ps ∙ rw k) ∙ sym (append_assoc (held_row size v ps) (rows size (suc v) n ps) (held_row size (v + suc n) ps))
 
--- where row v of m starts: its number is small, and the row lies in the room
-module _ (v m : ℕ) (h : v < m) where
-  square : v * m + m ≤ m * m
-  square = row_below m v m h
-
-  pub row_in : (r r₀ : List ℕ) → m * m ≤ length r₀ → length r ≡ length r₀ → v * m + m ≤ length r
-  row_in r r₀ room same = omega (arith, square)
-
-  module _ (few : m ≤ most_vessels) where
-    small : v * m < most_vessels * most_vessels
-    small = omega (arith, square, mul-le-mul few few)
-
-    pub row_start : (w : Width) → T (leb (most_vessels * most_vessels) (2 ^ bits w)) → Fits w (v * m)
-    row_start w = Fits-under w (v * m) (most_vessels * most_vessels) small
-
-    pub row_start_scaled : Fits w64 (v * m * 4)
-    row_start_scaled = record { fits = omega (arith, small) }
-
--- the loop over the rows: its start, a turn that lends the numbers behind the rows to the next row, and its end
+-- the loop over the rows: its start, and a turn that lends the numbers behind the rows to the next row
 module _ (m : ℕ) (ps : List Piece) (r₀ : List ℕ) where
   pub rows_none : r₀ ≡ rows m 0 0 ps ++ drop (0 * m) r₀
   unfolding rows
@@ -103,6 +81,3 @@ module _ (m : ℕ) (ps : List Piece) (r₀ : List ℕ) where
       let dr : drop (v * m) r ≡ d = rw e (drop_at (rows m 0 v ps) d (v * m) (length_rows m 0 v ps)) in
       let z : 0 + v ≡ v = omega arith in
       simp (ey, en, tk, dr, add-one, rows_snoc, z, suc-mul, drop-drop, append_assoc)
-
-  pub rows_end : (r : List ℕ) (v : ℕ) → v ≤ m → m ≤ v → r ≡ rows m 0 v ps ++ drop (v * m) r₀ → r ≡ onto (rows m 0 m ps) r₀
-  rows_end r v a b e = let q : v ≡ m = omega arith in rw length_rows (rw q at e)
