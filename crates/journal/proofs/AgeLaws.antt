@@ -1,7 +1,6 @@
 -- Laws of the ages in a list of calls: the age of a call by its kind, and the scan by what is left of it.
 -- Assumes nothing.
 use Rattle.std.proofs.Common.{◌≡◌, refl, Bool, true, false, List, ℕ, zero, suc, ◌+◌, ◌-◌, ◌*◌, ◌≤◌, ◌<◌, arith, ltb, get_or, drop, drop-drop, ltb-false, ne_eqb}
-use native.Mathlib.Nat.{sub-zero}
 use Rattle.refusal.proofs.Numbers.{neither}
 use Rattle.book.specs.Transfer.{most_age}
 use Rattle.journal.specs.Carried.{call_size, age_in, age_off, ages_off}
@@ -36,9 +35,6 @@ age_compared l n e = rw e
 -- Where the scan stands before call i of n: the calls that are left tell whether an age is off.
 pub record Scanned (n : ℕ) (l : List ℕ) (i : ℕ) : Type 0 where
   pub left : ages_off (n - i) (drop (call_size * i) l) ≡ ages_off n l
-
-pub scan_start : (n : ℕ) (l : List ℕ) → Scanned n l 0
-scan_start n l = record { left = rw sub-zero }
 
 module _ (n : ℕ) (l : List ℕ) (i : ℕ) (s : Scanned n l i) where
   pub scan_turn : i < n → (r : Bool) → r ≡ age_off (drop (call_size * i) l) → r ≡ false → Scanned n l (i + 1)

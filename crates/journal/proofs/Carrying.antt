@@ -2,7 +2,6 @@
 -- the calls, so that demand 3 holds of it.
 -- Assumes nothing.
 use Rattle.std.proofs.Common.{◌≡◌, refl, sym, ap, ◌∙◌, Bool, true, false, cond, List, [], ◌∷◌, ◌++◌, append_assoc, append-nil, ℕ, zero, suc, ◌+◌, ◌-◌, ◌*◌, ◌≤◌, ◌<◌, add-one, arith, length, get_or, set, take, drop, length-set, take-append-drop, drop-drop, take-suc-set, drop-set-lt, ne_eqb}
-use native.Mathlib.Nat.{sub-zero}
 use Rattle.refusal.specs.Numbers.{◌if◌, first, if_zero}
 use Rattle.refusal.proofs.Numbers.{not_zero, first_append}
 use Rattle.book.specs.declared.Head.{Head}
@@ -87,19 +86,6 @@ pub record Going (n : ℕ) (l : List ℕ) (h₀ : Head) (t₀ a₀ r₀ : List �
   pub answers_length : length a ≡ length a₀
   pub room_length : length r ≡ length r₀
 
-pub going_start : (n : ℕ) (l : List ℕ) (h : Head) (t a r : List ℕ) → Going n l h t a r h t a r 0
-going_start n l h t a r = record {
-  inside = omega arith;
-  numbers = rw sub-zero;
-  head = rw sub-zero;
-  table = rw sub-zero;
-  room = rw sub-zero;
-  behind = refl;
-  table_length = refl;
-  answers_length = refl;
-  room_length = refl;
-}
-
 module _ (n : ℕ) (l : List ℕ) (h₀ : Head) (t₀ a₀ r₀ : List ℕ) (h : Head) (t a r : List ℕ) (i : ℕ) (g : Going n l h₀ t₀ a₀ r₀ h t a r i) where
   abbrev all : Carried
   all = carried n l h₀ t₀ r₀
@@ -182,9 +168,6 @@ module _ (rule size : ℕ) (l t a r : List ℕ) (o : Opened) (eo : o ≡ opening
   module _ (z : o.number ≡ 0) (n : ℕ) (en : n ≡ count_calls l a) (off : Bool) (eoff : off ≡ ages_off n l) where
     pub carry_refused : off ≡ true → (x : Opened) → x ≡ not_opened 18 → CarriesOut rule size l t a r x t a r
     carry_refused h x ex = list_refused 18 (number_parts ∙ rw (z, ← en, ← eoff, h)) (λ q. omega arith) x ex
-
-    pub carry_ready : off ≡ false → ages_off n l ≡ false
-    carry_ready h = sym eoff ∙ h
 
     pub carry_done : off ≡ false → (h : Head) (t' a' r' : List ℕ)
         → MakesAll n l o.head t a r t' a' r' h → CarriesOut rule size l t a r (record { number = 0; head = h }) t' a' r'
