@@ -1,19 +1,16 @@
 -- The loops and parts of a report: clearing its numbers, entering a piece, what a pass asks of a book's pieces and leaves, and rows one behind the other.
 -- Assumes nothing.
-use Rattle.std.proofs.Common.{◌≡◌, sym, ap, ◌∙◌, Bool, true, false, ◌&&◌, List, [], ◌∷◌, ◌++◌, append_assoc, append-nil, ℕ, zero, suc, ◌+◌, ◌-◌, ◌*◌, ◌^◌, ◌≤◌, ◌<◌, zero-mul, suc-mul, mul-le-mul, add-zero, add-one, arith, w64, Fits, T, leb, eqb, length, take, drop, length-take, length-drop, drop_of_length-le, take_at, drop_at, take_all, drop-drop}
-use mir.Syntax.{Width}
-use mir.Val.{bits}
-use borrow.Author.Rules.{Fits-under}
+use Rattle.std.proofs.Common.{◌≡◌, sym, ap, ◌∙◌, Bool, true, false, ◌&&◌, List, [], ◌∷◌, ◌++◌, append_assoc, append-nil, ℕ, zero, suc, ◌+◌, ◌*◌, ◌≤◌, zero-mul, suc-mul, add-zero, add-one, arith, eqb, length, take, drop, drop_of_length-le, take_at, drop_at, drop-drop}
 use Rattle.table.specs.declared.Piece.{Piece}
 use Rattle.table.specs.Pieces.{only, total, weigh, in_vessel, sum}
 use Rattle.table.proofs.Pieces.{all_map, all_both}
 use Rattle.refusal.specs.Numbers.{TOP}
-use Rattle.book.specs.Head.{most_vessels}
 use Rattle.book.specs.Reports.{from_origin, held_row, born_within, spread_row, rows, onto}
+use Rattle.book.proofs.BalanceLaws.{length_tab}
 use Rattle.book.proofs.ReportLaws.{length_row, length_rows}
 use Rattle.filling.specs.Scatter.{held_by, born, every, origin_of, holder_of, cell_of, Tallied, one_pass, Reportable}
 use Rattle.filling.proofs.Scattered.{scattered}
-use Rattle.filling.proofs.Square.{row_below, tally_square, cells_inside, rows_in_one_pass}
+use Rattle.filling.proofs.Square.{tally_square, cells_inside, rows_in_one_pass}
 
 -- What the passes over a book's pieces ask: the pieces that one counts at an index are some of those that a vessel holds.
 part : (f g : Piece → ℕ) → ((p : Piece) → f p ≤ g p) → (ps : List Piece) → total f ps ≤ total g ps
@@ -45,16 +42,22 @@ module _ (size : ℕ) (ps : List Piece) (k : Reportable size ps) where
   pub whole_tallied : Tallied every (cell_of size) (size * size) ps
   whole_tallied = all_both (cells_inside size k.holders k.origins) (all_map (λ p o. rw (tally_square size p.holder p.origin o k.origins) (by_origin_light p.holder p.origin)) k.origins)
 
-  -- and what they leave
+  -- and what they leave of numbers that are no more than theirs
   module _ (r room : List ℕ) where
-    pub held_filled : (v : ℕ) → size ≤ length room → r ≡ one_pass size (held_by v) origin_of room ps → r ≡ onto (held_row size v ps) room
-    held_filled v fits e = e ∙ scattered _ _ size room ps fits k.origins
+    only_those : (k : ℕ) (w : List ℕ) → length w ≡ k → length room ≡ k → r ≡ onto w room → r ≡ w
+    only_those k w lw lr e =
+        let d : length room ≤ length w = omega arith in
+        let z : w ++ drop (length w) room ≡ w = rw (drop_of_length-le room d) (append-nil w) in
+        e ∙ z
 
-    pub spread_filled : (u from to : ℕ) → size ≤ length room → r ≡ one_pass size (born u from to) holder_of room ps → r ≡ onto (spread_row size u from to ps) room
-    spread_filled u from to fits e = e ∙ scattered _ _ size room ps fits k.holders
+    pub held_filled : (v : ℕ) → length room ≡ size → r ≡ one_pass (length room) (held_by v) origin_of room ps → r ≡ held_row size v ps
+    held_filled v fits e = only_those size _ (length_row size _ ps) fits (rw fits at e ∙ scattered _ _ size room ps (omega arith) k.origins)
 
-    pub whole_filled : size * size ≤ length room → r ≡ one_pass (size * size) every (cell_of size) room ps → r ≡ onto (rows size 0 size ps) room
-    whole_filled fits e = e ∙ rows_in_one_pass size room fits k.holders k.origins
+    pub spread_filled : (u from to : ℕ) → length room ≡ size → r ≡ one_pass (length room) (born u from to) holder_of room ps → r ≡ spread_row size u from to ps
+    spread_filled u from to fits e = only_those size _ (length_tab (λ v. sum (born_within u from to v) ps) 0 size) fits (rw fits at e ∙ scattered _ _ size room ps (omega arith) k.holders)
+
+    pub whole_filled : length room ≡ size * size → r ≡ one_pass (length room) every (cell_of size) room ps → r ≡ rows size 0 size ps
+    whole_filled fits e = only_those (size * size) _ (length_rows size 0 size ps) fits (rw fits at e ∙ rows_in_one_pass size room (omega arith) k.holders k.origins)
 
 -- Rows one behind the other.
 rows_snoc : (size v n : ℕ) (ps : List Piece) → rows size v (suc n) ps ≡ rows size v n ps ++ held_row size (v + n) ps
@@ -64,43 +67,17 @@ rows_snoc size v (suc n) ps =
     let k : suc v + n ≡ v + suc n = omega arith in
     ap (λ (l : List ℕ). held_row size v ps ++ l) (rows_snoc size (suc v) n ps ∙ rw k) ∙ sym (append_assoc (held_row size v ps) (rows size (suc v) n ps) (held_row size (v + suc n) ps))
 
--- where row v of m starts: its number is small, and the row lies in the room
-module _ (v m : ℕ) (h : v < m) where
-  square : v * m + m ≤ m * m
-  square = row_below m v m h
-
-  pub row_in : (r r₀ : List ℕ) → m * m ≤ length r₀ → length r ≡ length r₀ → v * m ≤ length r
-  row_in r r₀ room same = omega (arith, square)
-
-  pub row_fits : (r r₀ : List ℕ) → m * m ≤ length r₀ → length r ≡ length r₀ → m ≤ length (take (length r - v * m) (drop (v * m) r))
-  row_fits r r₀ room same = let q = square in simp (length-take, length-drop) (omega arith)
-
-  module _ (few : m ≤ most_vessels) where
-    small : v * m < most_vessels * most_vessels
-    small = omega (arith, square, mul-le-mul few few)
-
-    pub row_start : (w : Width) → T (leb (most_vessels * most_vessels) (2 ^ bits w)) → Fits w (v * m)
-    row_start w = Fits-under w (v * m) (most_vessels * most_vessels) small
-
-    pub row_start_scaled : Fits w64 (v * m * 4)
-    row_start_scaled = record { fits = omega (arith, small) }
-
--- the loop over the rows: its start, a turn that lends the part behind the rows to the next row, and its end
+-- the loop over the rows: its start, and a turn that lends the numbers behind the rows to the next row
 module _ (m : ℕ) (ps : List Piece) (r₀ : List ℕ) where
   pub rows_none : r₀ ≡ rows m 0 0 ps ++ drop (0 * m) r₀
   unfolding rows
   rows_none = rw (zero-mul m)
 
-  pub rows_next : (r ys : List ℕ) (v : ℕ) → v < m → m * m ≤ length r₀ → length r ≡ length r₀ → r ≡ rows m 0 v ps ++ drop (v * m) r₀
-      → ys ≡ onto (held_row m v ps) (take (length r - v * m) (drop (v * m) r))
-      → take (v * m) r ++ (ys ++ drop (length r - v * m) (drop (v * m) r)) ≡ rows m 0 (v + 1) ps ++ drop ((v + 1) * m) r₀
-  rows_next r ys v h room same e ey =
+  pub rows_next : (r ys : List ℕ) (v n : ℕ) → n ≡ m → r ≡ rows m 0 v ps ++ drop (v * m) r₀ → ys ≡ held_row m v ps
+      → take (v * m) r ++ (ys ++ drop n (drop (v * m) r)) ≡ rows m 0 (v + 1) ps ++ drop ((v + 1) * m) r₀
+  rows_next r ys v n en e ey =
       let d : List ℕ = drop (v * m) r₀ in
       let tk : take (v * m) r ≡ rows m 0 v ps = rw e (take_at (rows m 0 v ps) d (v * m) (length_rows m 0 v ps)) in
       let dr : drop (v * m) r ≡ d = rw e (drop_at (rows m 0 v ps) d (v * m) (length_rows m 0 v ps)) in
-      let ld : length d ≤ length r - v * m = simp length-drop (omega arith) in
       let z : 0 + v ≡ v = omega arith in
-      simp (ey, tk, dr, length_row, take_all _ d ld, drop_of_length-le d ld, append-nil, add-one, rows_snoc, z, suc-mul, drop-drop, append_assoc)
-
-  pub rows_end : (r : List ℕ) (v : ℕ) → v ≤ m → m ≤ v → r ≡ rows m 0 v ps ++ drop (v * m) r₀ → r ≡ onto (rows m 0 m ps) r₀
-  rows_end r v a b e = let q : v ≡ m = omega arith in rw length_rows (rw q at e)
+      simp (ey, en, tk, dr, add-one, rows_snoc, z, suc-mul, drop-drop, append_assoc)

@@ -1,7 +1,7 @@
 -- A report filled in one pass: over numbers that are 0 at first, each becomes the sum of its kind, and the numbers behind stay.
 -- Shown once for any test and any index, so that held, spread and whole are instances.
 -- Assumes nothing.
-use Rattle.std.proofs.Common.{◌≡◌, refl, sym, ap, ◌∙◌, Bool, true, false, ◌&&◌, cond, List, [], ◌∷◌, ◌++◌, ℕ, zero, suc, ◌+◌, ◌-◌, ◌≤◌, ◌<◌, not-suc-le-zero, le_of_suc-le-suc, add-one, arith, ltb, eqb, length, get_or, drop, replicate, length-set, length-append, length-drop, drop_of_length-le, drop-cons, get_or-set_same, get_or-set_other, ext_get_or, get_or-append-add, ltb-true, ltb-false, eqb-true, ne_eqb}
+use Rattle.std.proofs.Common.{◌≡◌, refl, sym, ap, ◌∙◌, Bool, true, false, ◌&&◌, cond, List, [], ◌∷◌, ◌++◌, ℕ, zero, suc, ◌+◌, ◌-◌, ◌≤◌, ◌<◌, not-suc-le-zero, le_of_suc-le-suc, add-one, append-nil, arith, ltb, eqb, length, get_or, drop, replicate, length-set, length-append, length-drop, drop_of_length-le, drop-cons, get_or-set_same, get_or-set_other, ext_get_or, get_or-append-add, ltb-true, ltb-false, eqb-true, ne_eqb}
 use lib.ListN.{get_or-replicate, length-replicate, get_or-append}
 use borrow.Author.Tests.{eqb-false}
 use Rattle.table.specs.declared.Piece.{Piece}
@@ -21,6 +21,13 @@ pub all_at : {P : Piece → Type 0} {ps : List Piece} → All P ps → (i : ℕ)
 all_at done i h = absurd (not-suc-le-zero h)
 all_at (also u x) zero h = u
 all_at (also u x) (suc i) h = all_at x i (le_of_suc-le-suc h)
+
+-- numbers that are all 0 are cleared
+pub all_cleared : (room r : List ℕ) → r ≡ replicate (length room) 0 → r ≡ cleared (length room) room
+all_cleared room r e =
+    let d : drop (length room) room ≡ [] = drop_of_length-le room (omega arith) in
+    let z : cleared (length room) room ≡ replicate (length room) 0 = rw d (append-nil (replicate (length room) 0)) in
+    e ∙ sym z
 
 module _ (test : Piece → Bool) (at : Piece → ℕ) where
   pub length_entered : (r : List ℕ) (p : Piece) → length (entered test at r p) ≡ length r

@@ -1,29 +1,17 @@
 -- The rows of all vessels, one behind the other, are a square: the number of origin u in the row of vessel v is the one at v × size + u. So one pass
 -- over the pieces, each entered at its origin in the row of its holder, fills what the rows are.
 -- Assumes nothing.
-use Rattle.std.proofs.Common.{◌≡◌, refl, sym, ap, ◌∙◌, Bool, true, false, ◌&&◌, List, ◌++◌, ℕ, zero, suc, ◌+◌, ◌*◌, ◌≤◌, ◌<◌, zero-add, zero-mul, suc-mul, add_comm, mul-le-mul, mul-le-mul_right, arith, w32, w64, Fits, ltb, eqb, length, ltb-true, ltb-false, eqb-true, eq-eqb, ne_eqb}
+use Rattle.std.proofs.Common.{◌≡◌, refl, sym, ap, ◌∙◌, Bool, true, false, ◌&&◌, List, ◌++◌, ℕ, zero, suc, ◌+◌, ◌*◌, ◌≤◌, ◌<◌, zero-add, zero-mul, suc-mul, add_comm, mul-le-mul_right, arith, ltb, eqb, length, ltb-true, ltb-false, eqb-true, eq-eqb, ne_eqb}
 use borrow.Author.Tests.{eqb-false}
 use Rattle.table.specs.declared.Piece.{Piece}
 use Rattle.table.specs.Pieces.{only, sum, All, done, also}
 use Rattle.table.proofs.Pieces.{all_map, all_both}
-use Rattle.refusal.specs.Numbers.{TOP}
 use Rattle.book.specs.Head.{tab}
 use Rattle.book.specs.declared.Report.TheVariants.{Whole}
 use Rattle.book.specs.Reports.{from_origin, held_row, rows, report_row, onto}
 use Rattle.book.proofs.BalanceLaws.{tab_append, tab_same}
 use Rattle.filling.specs.Scatter.{every, cell_of, tally, one_pass}
 use Rattle.filling.proofs.Scattered.{scattered}
-
--- of numbers of 32 bits the product fits 64, and so does a number more
-module _ (v m : ℕ) (fv : Fits w32 v) (fm : Fits w32 m) where
-  small : v * m ≤ TOP * TOP
-  small = let a : v ≤ TOP = omega (arith, fv.fits) in let b : m ≤ TOP = omega (arith, fm.fits) in mul-le-mul a b
-
-  pub product_fits : Fits w64 (v * m)
-  product_fits = record { fits = omega (arith, small) }
-
-  pub cell_fits : (u : ℕ) → Fits w32 u → Fits w64 (v * m + u)
-  cell_fits u fu = record { fits = omega (arith, small, fu.fits) }
 
 -- a row ends where the next one starts, or before
 pub row_below : (m v w : ℕ) → v < w → v * m + m ≤ w * m

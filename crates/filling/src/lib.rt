@@ -97,40 +97,40 @@ fn add<T: Tally>(table: &[u32], n: usize, tally: &T, report: &mut [u32])
     }
 }
 
-// The first numbers of the room become 0, and the pieces that count are entered there.
-fn fill_pass<T: Tally>(table: &[u32], n: usize, size: usize, tally: &T, report: &mut [u32])
-    requires { (4 * n ≤ length table.now) × (size ≤ length report.old) × Tallied (T.counted tally.now) (T.index_of tally.now) size (pieces_of n table.now) }
-    ensures { report.new ≡ one_pass size (T.counted tally.now) (T.index_of tally.now) report.old (pieces_of n table.now) }
+// A report: its numbers become 0, and the pieces that count are entered.
+fn fill_pass<T: Tally>(table: &[u32], n: usize, tally: &T, report: &mut [u32])
+    requires { (4 * n ≤ length table.now) × Tallied (T.counted tally.now) (T.index_of tally.now) (length report.old) (pieces_of n table.now) }
+    ensures { report.new ≡ one_pass (length report.old) (T.counted tally.now) (T.index_of tally.now) report.old (pieces_of n table.now) }
 {
-    report[..size].fill(0);
+    report.fill(0);
     add(table, n, tally, report);
 }
 
-// The held report of a vessel, at the start of the room.
-fn fill_held(table: &[u32], n: usize, vessels: u32, vessel: u32, report: &mut [u32])
-    requires { (4 * n ≤ length table.now) × (vessels ≤ length report.old) × Reportable vessels (pieces_of n table.now) }
-    ensures { report.new ≡ onto (held_row vessels vessel (pieces_of n table.now)) report.old }
+// The held report of a vessel: a number for each vessel.
+fn fill_held(table: &[u32], n: usize, vessel: u32, row: &mut [u32])
+    requires { (4 * n ≤ length table.now) × Reportable (length row.old) (pieces_of n table.now) }
+    ensures { row.new ≡ held_row (length row.old) vessel (pieces_of n table.now) }
 {
-    fill_pass(table, n, vessels as usize, &HeldBy { vessel }, report);
+    fill_pass(table, n, &HeldBy { vessel }, row);
 }
 
 // The rows of all vessels, in one pass.
 fn fill_whole(table: &[u32], n: usize, vessels: u32, report: &mut [u32])
-    requires { (4 * n ≤ length table.now) × (vessels * vessels ≤ length report.old) × Reportable vessels (pieces_of n table.now) }
-    ensures { report.new ≡ onto (rows vessels 0 vessels (pieces_of n table.now)) report.old }
+    requires { (4 * n ≤ length table.now) × (length report.old ≡ vessels * vessels) × Reportable vessels (pieces_of n table.now) }
+    ensures { report.new ≡ rows vessels 0 vessels (pieces_of n table.now) }
 {
-    let row = vessels as usize;
-    fill_pass(table, n, row * row, &ByBoth { row: vessels }, report);
+    fill_pass(table, n, &ByBoth { row: vessels }, report);
 }
 
-// The same, row by row: the part of the room from a vessel's row on is lent to its held report.
+// The same at the start of the room, row by row: each row is lent to the held report of its vessel.
 pub fn fill_rows(table: &[u32], n: usize, vessels: u32, report: &mut [u32])
     requires { (4 * n ≤ length table.now) × (vessels * vessels ≤ length report.old) × Reportable vessels (pieces_of n table.now) }
     ensures { report.new ≡ onto (rows vessels 0 vessels (pieces_of n table.now)) report.old }
 {
+    let size = vessels as usize;
     for v in 0..vessels {
         let at = (v * vessels) as usize;
-        fill_held(table, n, vessels, v, &mut report[at..]);
+        fill_held(table, n, v, &mut report[at..at + size]);
     }
 }
 
@@ -140,17 +140,12 @@ pub fn fill(table: &[u32], n: usize, vessels: u32, asked: Report, room: &mut [u3
         × Reportable vessels (pieces_of n table.now) }
     ensures { room.new ≡ onto (report_row vessels (pieces_of n table.now) asked) room.old }
 {
+    let size = vessels as usize;
     match asked {
-        Report::Held(vessel) => fill_held(table, n, vessels, vessel, room),
+        Report::Held(vessel) => fill_held(table, n, vessel, &mut room[..size]),
         Report::Spread(origin, from, to) => {
-            fill_pass(
-                table,
-                n,
-                vessels as usize,
-                &BornAt { origin, from, to },
-                room,
-            )
+            fill_pass(table, n, &BornAt { origin, from, to }, &mut room[..size])
         }
-        Report::Whole => fill_whole(table, n, vessels, room),
+        Report::Whole => fill_whole(table, n, vessels, &mut room[..size * size]),
     }
 }

@@ -1,5 +1,5 @@
 -- `filling::fill_rows` meets its contract. The invariant: the rows of the vessels below v are written, and what is behind them is as it was.
--- A turn lends the part from row v on to the held report, which writes the row at its start.
+-- A turn lends row v to the held report.
 use Rattle.std.proofs.Common.{◌*◌, ◌≡◌, ◌++◌, length, drop}
 use Rattle.table.specs.Table.{pieces_of}
 use Rattle.book.specs.Reports.{rows}
