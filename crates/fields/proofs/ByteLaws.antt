@@ -1,8 +1,8 @@
--- Laws of numbers in bytes: what std makes of the bytes read, and the test that two lists are the same.
+-- Laws of numbers in bytes: what std makes of the bytes read, and the comparison of two slices.
 -- Assumes nothing.
-use Rattle.std.proofs.Common.{ℕ, ◌+◌, ◌*◌, ◌-◌, add-zero, arith, Bool, true, false, ◌≡◌, refl, sym, ◌∙◌, List, length, get_or, take, drop, length-drop, get_or-drop, take_all}
+use Rattle.std.proofs.Common.{ℕ, ◌+◌, ◌*◌, ◌-◌, add-zero, arith, ◌≡◌, refl, List, [], ◌∷◌, eqb, length, get_or, take, drop, length-drop, get_or-drop, take_all}
+use Rattle.std.specs.Cmp.Lexicographic.{pointwise}
 use Rattle.book.specs.Head.{same}
-use Rattle.book.proofs.HeadLaws.{same_refl, same_eq}
 use Rattle.fields.specs.Bytes.{value_in}
 
 pub value_one : (l : List ℕ) (at a : ℕ) → a ≡ get_or l at 0 → a ≡ value_in 1 (drop at l)
@@ -19,14 +19,13 @@ pub value_four : (l : List ℕ) (at r : ℕ)
 unfolding value_in
 value_four l at r e = simp (get_or-drop, add-zero) (omega (arith, e))
 
--- a test that says whether two lists are the same is `same` of them
-pub is_same : (a b : List ℕ) (r : Bool) → (r ≡ true → a ≡ b) → (a ≡ b → r ≡ true) → r ≡ same a b
-is_same a b true f g = rw (f refl) (sym (same_refl b))
-is_same a b false f g = go (same a b) refl
-  where
-    go : (t : Bool) → same a b ≡ t → false ≡ same a b
-    go true q = g (same_eq a b q) ∙ sym q
-    go false q = sym q
+-- std's comparison of slices is that of lists
+pub slices_compared : (a b : List ℕ) → pointwise eqb a b ≡ same a b
+unfolding same
+slices_compared [] [] = refl
+slices_compared [] (y ∷ b) = refl
+slices_compared (x ∷ a) [] = refl
+slices_compared (x ∷ a) (y ∷ b) = rw (slices_compared a b)
 
 -- the part of a slice from an index to its end
 pub rest_part : (s : List ℕ) (at : ℕ) → take (length s - at) (drop at s) ≡ drop at s

@@ -6,7 +6,7 @@ use Rattle.std.specs.List.{list_all, prefix_len}
 use Rattle.book.specs.Head.{same, all_zero}
 use Rattle.fields.specs.Layout.{name_size}
 use Rattle.names.specs.Names.{graphic, letters, one_more_if, well_formed, name_at, name_off, used_in}
-use Rattle.fields.proofs.ByteLaws.{rest_part}
+use Rattle.fields.proofs.ByteLaws.{rest_part, slices_compared}
 use Rattle.fields.proofs.GroupLaws.{group_at}
 
 -- std's count of graphic bytes from the front on is the letters
@@ -33,14 +33,6 @@ pub zeros_tested : (s : List ℕ) → list_all (λ b. eqb b 0) s ≡ all_zero s
 unfolding all_zero
 zeros_tested [] = refl
 zeros_tested (b ∷ s) = rw (zeros_tested s)
-
--- std's comparison of slices is that of lists
-pub slices_compared : (a b : List ℕ) → pointwise eqb a b ≡ same a b
-unfolding same
-slices_compared [] [] = refl
-slices_compared [] (y ∷ b) = refl
-slices_compared (x ∷ a) [] = refl
-slices_compared (x ∷ a) (y ∷ b) = rw (slices_compared a b)
 
 -- the eight bytes from which a vessel's name is read
 module _ (l : List ℕ) (vessels : ℕ) where

@@ -4,4 +4,4 @@ use Rattle.std.proofs.Common.{rules}
 use Rattle.sheet.proofs.name.Goals as goal
 
 pub slice_bounds-letter_count-end : goal.slice_bounds-letter_count-end
-slice_bounds-letter_count-end c = search (rules, name_fits)
+slice_bounds-letter_count-end c = search (rules, name_fits, c.in-Ok.ensures)

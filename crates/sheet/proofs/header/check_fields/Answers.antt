@@ -2,7 +2,7 @@
 use Rattle.sheet.proofs.HeaderLaws.{few_vessels}
 use Rattle.fields.proofs.LayoutLaws.{few_movements}
 use Rattle.std.proofs.Common.{rules}
-use Rattle.sheet.proofs.header.field_number.Goals as goal
+use Rattle.sheet.proofs.header.check_fields.Goals as goal
 
 pub layout_off-requires : goal.layout_off-requires
 layout_off-requires c = search (rules, few_vessels, few_movements)
