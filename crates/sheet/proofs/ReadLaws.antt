@@ -59,7 +59,7 @@ body_fits s n vessels movements e z ev em =
     let l = laid s n e z in
     (record { few_vessels = omega arith; few_movements = omega arith }, omega arith)
 
--- the ways out of `body_number`
+-- the ways out of `check_body`
 module _ (s : List ℕ) (vessels movements : ℕ) (off : Bool) (e : off ≡ names_off (names_in vessels (take (length s - header_size) (drop header_size s)))) where
   names_say : off ≡ names_off (names_in vessels (drop header_size s))
   names_say = rw rest_part at e
@@ -71,7 +71,7 @@ module _ (s : List ℕ) (vessels movements : ℕ) (off : Bool) (e : off ≡ name
       → n ≡ first (body_checks vessels movements s)
   out_entries n q en = rw (← names_say, q) (rw rest_part at en)
 
--- the ways out of `sheet_number`
+-- the ways out of `read_header`, by the numbers
 module _ (s : List ℕ) (n : ℕ) (e : n ≡ first (header_checks s)) where
   pub out_header : (n ≡ 0 → ⊥) → n ≡ read_number s
   unfolding read_number

@@ -54,7 +54,7 @@ content_fits rule vessels n names numbers e z =
     let g = counted rule vessels n names numbers e z in
     (within g, g.named, omega arith)
 
--- the ways out of `content_number`
+-- the ways out of `check_content`
 module _ (vessels movements room : ℕ) (names numbers : List ℕ) (off : Bool) (e : off ≡ names_off (names_in vessels names)) where
   pub out_names : off ≡ true → 17 ≡ first (content_checks vessels movements names numbers room)
   out_names q = rw (← e, q)
@@ -94,7 +94,7 @@ content vessels movements most names numbers e =
       room = ltb-false most (sheet_size vessels movements) (passed last tt (passed_second es last ok p.1)).0;
     }
 
--- the ways out of `write_number`
+-- the ways out of `check_all`
 module _ (rule vessels room : ℕ) (names numbers : List ℕ) (n : ℕ) (e : n ≡ first (count_checks rule vessels names numbers)) where
   pub out_counts : (n ≡ 0 → ⊥) → n ≡ write_number rule vessels names numbers room
   unfolding write_number
@@ -136,7 +136,7 @@ module _ (rule vessels room n : ℕ) (names numbers : List ℕ) (e : n ≡ write
       content vessels (count_given numbers) room names numbers
       (passed_second (count_checks rule vessels names numbers) (content_checks vessels (count_given numbers) names numbers room) tt zeros)
 
--- the ways out of `write`
+-- the ways out of `try_write`
 module _ (rule vessels n : ℕ) (names numbers out : List ℕ) (e : n ≡ write_number rule vessels names numbers (length out)) where
   pub write_refused : (n ≡ 0 → ⊥) → out ≡ written rule vessels names numbers out
   write_refused h = rw (← e) (not_zero n (sheet_of rule vessels names numbers ++ drop (sheet_size vessels (count_given numbers)) out) out h)

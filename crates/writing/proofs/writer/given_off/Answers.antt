@@ -7,6 +7,6 @@ pub returns-then-names-vessels : goal.returns-then-names-vessels
 unfolding given_off
 returns-then-names-vessels c = search tests
 
-pub returns : goal.returns
+pub returns-else-names-vessels : goal.returns-else-names-vessels
 unfolding given_off
-returns c = search tests
+returns-else-names-vessels c = search tests
