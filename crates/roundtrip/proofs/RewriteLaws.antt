@@ -78,13 +78,13 @@ module _ (s : List ℕ) (r : Reading) (e : r ≡ reading s) (z : r.number ≡ 0)
         number : write_number (rule_of s) (vessels_of s) (names_of s) (numbers_of s) (length out) ≡ rewrite_number s (length out)
         number = again.asks_room s reads bytes (length out) ∙ rw (asked_good s r e z, laid.size)
 
-        pub again_good : (n : ℕ) (out' : List ℕ)
-            → let names = take (name_start r.vessels - header_size) (drop header_size s) in
+        pub again_good : (end n : ℕ) (out' : List ℕ) → end ≡ name_start r.vessels
+            → let names = take (end - header_size) (drop header_size s) in
             let numbers = take (given_size * r.movements) taken in
             (n ≡ write_number r.rule r.vessels names numbers (length out)) × (out' ≡ written r.rule r.vessels names numbers out)
             → Again s out n out'
-        again_good n out' p =
+        again_good end n out' ee p =
             let q : (n ≡ write_number (rule_of s) (vessels_of s) (names_of s) (numbers_of s) (length out))
             × (out' ≡ written (rule_of s) (vessels_of s) (names_of s) (numbers_of s) out) =
-            rw (names_part, numbers_part, header s r e z) at p in
+            rw (ee, names_part, numbers_part, header s r e z) at p in
             (q.0 ∙ number, q.1 ∙ rw (number, (read_rewrites s reads bytes).bytes, same_size))

@@ -8,7 +8,7 @@ ghost use Rattle.fields.specs.Movements.{given_size};
 ghost use Rattle.sheet.specs.Sheet.{movements_of, read_number};
 ghost use Rattle.roundtrip.specs.Rewriting.{movement_numbers, numbers_of, rewrite_number, rewritten};
 
-use fields::layout::{GIVEN_SIZE, HEADER_SIZE, MOST_MOVEMENTS, NAME_SIZE};
+use fields::layout::{GIVEN_SIZE, HEADER_SIZE, MOST_MOVEMENTS, name_start};
 use refusal::Refusal;
 use sheet::answer::Movement;
 
@@ -17,7 +17,13 @@ fn put_movement(numbers: &mut [u32], at: usize, m: Movement)
     requires { at + given_size ≤ length numbers.old }
     ensures { numbers.new ≡ sets numbers.old at (movement_numbers m) }
 {
-    let five = [m.source, m.destination, m.minute, m.weight, u32::from(m.age)];
+    let five = [
+        m.source,
+        m.destination,
+        m.minute,
+        m.weight,
+        u32::from(m.age),
+    ];
     numbers[at..at + GIVEN_SIZE].copy_from_slice(&five);
 }
 
@@ -43,7 +49,7 @@ fn try_rewrite(sheet: &[u8], out: &mut [u8]) -> Result<(), Refusal>
     let header = sheet::read_header(sheet)?;
     let mut room = [0u32; GIVEN_SIZE * MOST_MOVEMENTS];
     take_numbers(sheet, header.movements, &mut room);
-    let names_end = HEADER_SIZE + NAME_SIZE * (header.vessels as usize);
+    let names_end = name_start(header.vessels);
     let count = GIVEN_SIZE * (header.movements as usize);
     writing::try_write(
         header.rule,

@@ -9,8 +9,8 @@ ghost use Rattle.sheet.specs.Answers.{header_numbers};
 use crate::answer::Header;
 use fields::bytes::{read16, read32};
 use fields::layout::{
-    ENTRIES_AT, ENTRY_SIZE, HEADER_SIZE, LENGTH_AT, MOVEMENTS_AT, NAME_SIZE, NAMES_AT, RULE_AT,
-    VESSELS_AT,
+    ENTRIES_AT, HEADER_SIZE, LENGTH_AT, MOVEMENTS_AT, NAMES_AT, RULE_AT, VESSELS_AT, name_start,
+    sheet_size,
 };
 use refusal::Refusal;
 
@@ -38,8 +38,8 @@ fn layout_off(sheet: &[u8], vessels: u32, movements: u32) -> bool
     requires { (header_size ≤ length sheet.now) × Within vessels movements }
     ensures { result ≡ layout_off vessels movements sheet.now }
 {
-    let start = HEADER_SIZE + NAME_SIZE * (vessels as usize);
-    let size = start + ENTRY_SIZE * (movements as usize);
+    let start = name_start(vessels);
+    let size = sheet_size(vessels, movements);
     let names_at = read32(sheet, NAMES_AT) as usize;
     let entries_at = read32(sheet, ENTRIES_AT) as usize;
     let length = read32(sheet, LENGTH_AT) as usize;

@@ -9,7 +9,7 @@ ghost use Rattle.sheet.specs.Answers.{reading, movement_at, movement_asked, move
 
 use answer::{Movement, Reading};
 use fields::bytes::read16;
-use fields::layout::{ENTRY_SIZE, HEADER_SIZE, NAME_SIZE, VESSELS_AT};
+use fields::layout::{NAME_SIZE, VESSELS_AT, name_start, sheet_size};
 pub use reader::read_header;
 use refusal::Refusal;
 
@@ -42,8 +42,7 @@ pub fn movement_known(sheet: &[u8], index: u32) -> Movement
     requires { (read_number sheet.now ≡ 0) × (index < movements_of sheet.now) }
     ensures { result ≡ movement_at sheet.now index }
 {
-    let vessels = read16(sheet, VESSELS_AT) as usize;
-    let at = HEADER_SIZE + NAME_SIZE * vessels + ENTRY_SIZE * (index as usize);
+    let at = sheet_size(read16(sheet, VESSELS_AT), index);
     let e = fields::entries::read_entry(sheet, at);
     Movement {
         number: 0,
@@ -107,7 +106,7 @@ pub fn name<'a>(sheet: &'a [u8], vessel: u32) -> &'a [u8]
 {
     match check_vessel(sheet, vessel) {
         Ok(()) => {
-            let at = HEADER_SIZE + NAME_SIZE * (vessel as usize);
+            let at = name_start(vessel);
             let count = names::letter_count(&sheet[at..at + NAME_SIZE]);
             &sheet[at..at + count]
         }

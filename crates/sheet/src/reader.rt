@@ -8,7 +8,7 @@ ghost use Rattle.sheet.specs.Answers.{reading, reading_of};
 
 use crate::answer::Header;
 use crate::header::{check_header, header_numbers};
-use fields::layout::{HEADER_SIZE, NAME_SIZE};
+use fields::layout::{HEADER_SIZE, name_start};
 use refusal::Refusal;
 
 // The first check that what lies behind the header fails.
@@ -16,11 +16,10 @@ fn check_body(sheet: &[u8], vessels: u32, movements: u32) -> Result<(), Refusal>
     requires { Within vessels movements × (length sheet.now ≡ sheet_size vessels movements) }
     ensures { outcome_number result ≡ first (body_checks vessels movements sheet.now) }
 {
-    let v = vessels as usize;
-    let start = HEADER_SIZE + NAME_SIZE * v;
-    if names::names_off(&sheet[HEADER_SIZE..], v) {
+    if names::names_off(&sheet[HEADER_SIZE..], vessels as usize) {
         return Err(Refusal::Name);
     }
+    let start = name_start(vessels);
     fields::entries::check_entries(&sheet[start..], movements as usize, vessels)
 }
 

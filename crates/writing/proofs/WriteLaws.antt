@@ -49,10 +49,10 @@ within g = record { few_vessels = g.opened.few_vessels; few_movements = g.moved 
 
 -- what the content's checks ask
 pub content_fits : (rule vessels n : ℕ) (names numbers : List ℕ) → n ≡ first (count_checks rule vessels names numbers) → n ≡ 0
-    → Within vessels (count_given numbers) × (length names ≡ name_size * vessels) × (given_size * count_given numbers ≤ length numbers)
+    → Within vessels (count_given numbers) × (length names ≡ name_size * vessels)
 content_fits rule vessels n names numbers e z =
     let g = counted rule vessels n names numbers e z in
-    (within g, g.named, omega arith)
+    (within g, g.named)
 
 -- the ways out of `check_content`
 module _ (vessels movements room : ℕ) (names numbers : List ℕ) (off : Bool) (e : off ≡ names_off (names_in vessels names)) where
@@ -94,7 +94,7 @@ content vessels movements most names numbers e =
       room = ltb-false most (sheet_size vessels movements) (passed last tt (passed_second es last ok p.1)).0;
     }
 
--- the ways out of `check_all`
+-- the ways out of `check`
 module _ (rule vessels room : ℕ) (names numbers : List ℕ) (n : ℕ) (e : n ≡ first (count_checks rule vessels names numbers)) where
   pub out_counts : (n ≡ 0 → ⊥) → n ≡ write_number rule vessels names numbers room
   unfolding write_number

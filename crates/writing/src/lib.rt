@@ -7,6 +7,7 @@ ghost use Rattle.refusal.specs.Refusals.{outcome_number};
 ghost use Rattle.writing.specs.Writing.{write_number, written};
 
 use refusal::Refusal;
+use writer::Draft;
 
 mod writer; // writer.rt: the checks of what is to be written, and its bytes
 
@@ -21,8 +22,14 @@ pub fn try_write(
     ensures number { outcome_number result ≡ write_number rule vessels names.now numbers.now (length out.old) }
     ensures bytes { out.new ≡ written rule vessels names.now numbers.now out.old }
 {
-    writer::check_all(rule, vessels, names, numbers, out.len())?;
-    writer::put_sheet(rule, vessels, names, numbers, out);
+    let draft = Draft {
+        rule,
+        vessels,
+        names,
+        numbers,
+    };
+    draft.check(out.len())?;
+    draft.put(out);
     Ok(())
 }
 

@@ -27,6 +27,6 @@ pub returns : goal.returns
 returns c =
     let w = c.try_write.ensures in
     let k =
-    again_good c.args.sheet.now _ c.in_ok-header.ensures refl _ c.take_numbers.ensures (λ i. omega (arith, c.type_inv.sheet i)) c.args.out.now _ _ (w.number, w.bytes)
+    again_good c.args.sheet.now _ c.in_ok-header.ensures refl _ c.take_numbers.ensures (λ i. omega (arith, c.type_inv.sheet i)) c.args.out.now _ _ _ c.name_start-names_end.ensures (w.number, w.bytes)
     in
     record { number = k.0; bytes = k.1 }

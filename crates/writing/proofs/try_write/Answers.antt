@@ -3,8 +3,8 @@ use Rattle.writing.proofs.WriteLaws.{write_done, put_fits}
 use Rattle.std.proofs.Common.{rules, refl}
 use Rattle.writing.proofs.try_write.Goals as goal
 
-pub put_sheet-requires : goal.put_sheet-requires
-put_sheet-requires c = put_fits _ _ _ _ _ c.args.out.now c.in_ok-check_all.ensures refl
+pub put-requires : goal.put-requires
+put-requires c = put_fits _ _ _ _ _ c.args.out.now c.in_ok-check.ensures refl
 
 pub returns-clause-bytes : goal.returns-clause-bytes
-returns-clause-bytes c = search (rules, write_done, c.in_ok-check_all.ensures)
+returns-clause-bytes c = search (rules, write_done, c.in_ok-check.ensures)

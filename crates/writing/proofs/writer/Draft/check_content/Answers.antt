@@ -2,13 +2,13 @@
 use Rattle.writing.proofs.WriteLaws.{out_movement, out_room, out_all}
 use Rattle.fields.proofs.Outcomes.{outcomes}
 use Rattle.std.proofs.Common.{rules}
-use Rattle.writing.proofs.writer.check_content.Goals as goal
+use Rattle.writing.proofs.writer.Draft.check_content.Goals as goal
 
 pub returns-in_err-check_all_given : goal.returns-in_err-check_all_given
 returns-in_err-check_all_given c = search (rules, out_movement, outcomes, c.in_err-check_all_given.ensures)
 
-pub returns-then-room-v : goal.returns-then-room-v
-returns-then-room-v c = search (rules, out_room, c.in_ok-check_all_given.ensures)
+pub returns-then-room-sheet_size : goal.returns-then-room-sheet_size
+returns-then-room-sheet_size c = search (rules, out_room, c.in_ok-check_all_given.ensures)
 
 pub returns : goal.returns
 returns c = search (rules, out_all, c.in_ok-check_all_given.ensures)
