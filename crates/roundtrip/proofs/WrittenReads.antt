@@ -15,7 +15,7 @@ use Rattle.sheet.specs.Answers.{reading, movement_answer, movement_at, movement_
 use Rattle.writing.specs.Writing.{count_given, header_bytes, sheet_of, write_number}
 use Rattle.fields.proofs.GroupLaws.{group_at, groups_append, length_groups}
 use Rattle.sheet.proofs.AnswerLaws.{number_read, asked_inside, entry_of, name_of}
-use Rattle.sheet.proofs.HeaderLaws.{laid_out, out_none, out_fields}
+use Rattle.sheet.proofs.HeaderLaws.{laid_out, counts_pass, out_fields}
 use Rattle.writing.proofs.SheetPut.{length_header}
 use Rattle.writing.proofs.WriteLaws.{Counted, Content, write_counted, write_content, length_sheet}
 use Rattle.fields.proofs.EntryLaws.{all_sound, ages_fit}
@@ -112,7 +112,7 @@ module _ (rule vessels room : ℕ) (names numbers : List ℕ) (accepted : write_
   good_header : 0 ≡ first (header_checks s)
   good_header =
       out_fields s false rule vessels count 0 (sym is_sheet) refl (sym header.known) (sym header.held) (sym header.moved)
-      (out_none rule vessels 0 15 16 (movements_off count) (layout_off vessels count s) (sym counted.opens) refl false (sym counted.inside) refl false (sym (laid_out s vessels count header.names header.start header.size long)) refl)
+      (counts_pass rule vessels 15 16 (movements_off count) (layout_off vessels count s) counted.opens counted.inside (laid_out s vessels count header.names header.start header.size long))
 
   good_body : 0 ≡ first (body_checks (vessels_of s) (movements_of s) s)
   good_body =

@@ -1,8 +1,8 @@
 -- Laws of the header: what each check tells once it is passed, and the number at each way out. Assumes nothing.
-use Rattle.std.proofs.Common.{ℕ, ◌≤◌, arith, ◌≡◌, refl, sym, ap, ◌∙◌, Bool, true, false, not, List, [], ◌∷◌, ◌++◌, ltb-false, eq-eqb, eqb-true, le-ltb, eqb, ltb, length, take, drop}
+use Rattle.std.proofs.Common.{ℕ, ◌≤◌, arith, ◌≡◌, refl, sym, ap, ◌∙◌, Bool, false, not, List, [], ◌∷◌, ◌++◌, ltb-false, eq-eqb, eqb-true, le-ltb, eqb, ltb, length, take, drop}
 use Rattle.std.specs.Cmp.Lexicographic.{pointwise}
 use Rattle.refusal.specs.Numbers.{◌if◌, first}
-use Rattle.refusal.proofs.Numbers.{neither, refuses, passes}
+use Rattle.refusal.proofs.Numbers.{neither, passes}
 use Rattle.book.proofs.HeadLaws.{openable, same_test}
 use Rattle.book.specs.Head.{same, most_vessels, open_checks}
 use Rattle.fields.specs.Bytes.{value_in}
@@ -40,26 +40,12 @@ pub laid_out : (s : List ℕ) (vessels movements : ℕ) → value_in 4 (drop nam
 unfolding layout_off
 laid_out s vessels movements en es el size = rw (eq-eqb _ _ en, eq-eqb _ _ es, eq-eqb _ _ el, eq-eqb _ _ size)
 
--- the ways out of two checks behind those of the rule and the vessels: of the reader's and of the writer's counts
-module _ (rule vessels n p q : ℕ) (b d : Bool) (en : n ≡ first (open_checks rule vessels)) where
-  pub out_open : (n ≡ 0 → ⊥) → n ≡ first (open_checks rule vessels ++ (p if b) ∷ (q if d) ∷ [])
-  out_open h = refuses (open_checks rule vessels) ((p if b) ∷ (q if d) ∷ []) tt n en h
+-- two checks behind those of the rule and the vessels, of the reader's and of the writer's counts, where none applies
+pub counts_pass : (rule vessels p q : ℕ) (b d : Bool) → first (open_checks rule vessels) ≡ 0 → b ≡ false → d ≡ false
+    → 0 ≡ first (open_checks rule vessels ++ (p if b) ∷ (q if d) ∷ [])
+counts_pass rule vessels p q b d opens eb ed = passes (open_checks rule vessels) ((p if b) ∷ (q if d) ∷ []) tt 0 0 (sym opens) refl (rw (eb, ed))
 
-  module _ (z : n ≡ 0) (x : Bool) (ex : x ≡ b) where
-    pub out_one : x ≡ true → p ≡ first (open_checks rule vessels ++ (p if b) ∷ (q if d) ∷ [])
-    out_one t = passes (open_checks rule vessels) ((p if b) ∷ (q if d) ∷ []) tt n p en z (rw (← ex, t))
-
-    module _ (f : x ≡ false) (y : Bool) (ey : y ≡ d) where
-      pub out_two : y ≡ true → q ≡ first (open_checks rule vessels ++ (p if b) ∷ (q if d) ∷ [])
-      out_two t = passes (open_checks rule vessels) ((p if b) ∷ (q if d) ∷ []) tt n q en z (rw (← ex, f, ← ey, t))
-
-      pub out_none : y ≡ false → 0 ≡ first (open_checks rule vessels ++ (p if b) ∷ (q if d) ∷ [])
-      out_none t = passes (open_checks rule vessels) ((p if b) ∷ (q if d) ∷ []) tt n 0 en z (rw (← ex, f, ← ey, t))
-
--- the ways out of `check_header`
-pub out_no_sheet : (s : List ℕ) (a : Bool) → a ≡ no_sheet s → a ≡ true → 14 ≡ first (header_checks s)
-out_no_sheet s a e q = rw (← e, q)
-
+-- the number of a header that begins with the mark
 pub out_fields : (s : List ℕ) (a : Bool) (rule vessels movements n : ℕ) → a ≡ no_sheet s → a ≡ false
     → rule ≡ rule_of s → vessels ≡ vessels_of s → movements ≡ movements_of s
     → n ≡ first (field_checks rule vessels movements s) → n ≡ first (header_checks s)
