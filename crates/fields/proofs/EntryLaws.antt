@@ -1,27 +1,18 @@
 -- Laws of movements: what the reads and the numbers given make, the scan for a movement that fails a check, and what passed checks tell.
 -- Assumes nothing.
-use Rattle.std.proofs.Common.{ℕ, zero, suc, ◌+◌, ◌*◌, ◌<◌, ◌≤◌, add-zero, Bool, false, ◌≡◌, refl, sym, ◌∙◌, List, [], ◌∷◌, ◌++◌, length, get_or, drop, drop_of_length-le, get_or-drop, drop-drop, leb-false, ltb-false, lt-ltb, le-ltb, T, leb, ltb, arith}
+use Rattle.std.proofs.Common.{ℕ, zero, suc, ◌+◌, ◌*◌, ◌<◌, ◌≤◌, Bool, false, ◌≡◌, refl, sym, ◌∙◌, List, [], ◌∷◌, ◌++◌, length, get_or, drop, drop_of_length-le, drop-drop, leb-false, ltb-false, le-ltb, T, leb, ltb, arith}
 use Rattle.refusal.specs.Numbers.{Check, ◌if◌, first, if_zero}
 use Rattle.refusal.proofs.Numbers.{named, passed, first_append, not_zero, passed_first, passed_second, neither, named_append, refuses_less, alike_behind}
 use Rattle.book.specs.Transfer.{most_age}
 use Rattle.fields.specs.declared.entries.Entry.{Entry}
 use Rattle.fields.specs.Bytes.{value_in, groups}
-use Rattle.fields.specs.Movements.{no_entry, entry_in, given_in, entry_checks, given_checks, entries_checks}
+use Rattle.fields.specs.Movements.{no_entry, entry_in, entry_checks, given_checks, entries_checks}
 use Rattle.fields.proofs.GroupLaws.{group_at, next_group, length_groups}
 
 pub entry_read : (l : List ℕ) (at s d a t q : ℕ) → s ≡ value_in 1 (drop at l) → d ≡ value_in 1 (drop (at + 1) l) → a ≡ value_in 2 (drop (at + 2) l)
     → t ≡ value_in 4 (drop (at + 4) l) → q ≡ value_in 4 (drop (at + 8) l)
     → ◌≡◌ {A = Entry} record { source = s; destination = d; age = a; minute = t; weight = q } (entry_in (drop at l))
 entry_read l at s d a t q es ed ea et eq = simp (es, ed, ea, et, eq, drop-drop)
-
-pub given_read : (l : List ℕ) (at : ℕ)
-    → ◌≡◌ {A = Entry}
-    record { source = get_or l at 0; destination = get_or l (at + 1) 0; age = get_or l (at + 4) 0; minute = get_or l (at + 2) 0; weight = get_or l (at + 3) 0 }
-    (given_in (drop at l))
-given_read l at = simp (get_or-drop, add-zero)
-
-pub age_over : (vessels : ℕ) (e : Entry) → most_age < e.age → 18 ≡ first (given_checks vessels e)
-age_over vessels e h = rw (lt-ltb most_age e.age h)
 
 -- both kinds of checks of a movement have numbers
 pub named_entry : (vessels : ℕ) (e : Entry) → T (named (entry_checks vessels e))
@@ -56,9 +47,6 @@ pub record Checked (checks : Entry → List Check) (size : ℕ) (f : List ℕ �
   pub left : first (entries_checks checks (drop i (groups size f count l))) ≡ first (entries_checks checks (groups size f count l))
 
 module _ (checks : Entry → List Check) (size : ℕ) (f : List ℕ → Entry) (count : ℕ) (l : List ℕ) where
-  pub check_start : Checked checks size f count l 0
-  check_start = record { inside = omega arith; left = refl }
-
   module _ (i : ℕ) (s : Checked checks size f count l i) where
     module _ (ok : (e : Entry) → T (named (checks e))) (h : i < count) (e : Entry) (is : e ≡ f (drop (size * i) l)) (n : ℕ) (says : n ≡ first (checks e)) where
       one : if_zero n (first (entries_checks checks (drop (i + 1) (groups size f count l)))) n ≡ first (entries_checks checks (groups size f count l))

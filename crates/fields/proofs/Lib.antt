@@ -1,4 +1,5 @@
 -- Laws that belong to no one function.
+pub mod Outcomes
 pub mod LayoutLaws
 pub mod ByteLaws
 pub mod GroupLaws

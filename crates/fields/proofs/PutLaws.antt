@@ -1,7 +1,10 @@
--- Laws of bytes put one behind the other: two runs of stores are one, and a turn of each loop that puts bytes. Assumes nothing.
+-- Laws of bytes put one behind the other: two runs of stores are one, a part written whole is a run, and a turn of each loop that puts bytes.
+-- Assumes nothing.
 use mathlib.Core.List.{flat_map}
-use Rattle.std.proofs.Common.{ℕ, zero, suc, ◌+◌, ◌*◌, ◌<◌, ◌≤◌, add-zero, add-suc, suc-add, add_assoc, mul-suc, add-one, arith, ◌≡◌, refl, sym, ap, ◌∙◌, List, [], ◌∷◌, ◌++◌, append_assoc, length, get_or, drop, set, drop_of_length-le, drop-cons}
-use lib.Seq.{sets}
+use Rattle.std.proofs.Common.{ℕ, zero, suc, ◌+◌, ◌-◌, ◌*◌, ◌/◌, ◌%◌, ◌<◌, ◌≤◌, add-zero, add-suc, suc-add, add_assoc, mul-suc, add-one, arith, ◌≡◌, refl, sym, ap, ◌∙◌, List, [], ◌∷◌, ◌++◌, append_assoc, append-nil, length, take, drop, set, drop_of_length-le, drop-drop, take_all}
+use Rattle.std.proofs.lemmas.List.{take_more_set}
+use lib.Seq.{sets, sets-eq}
+use borrow.Rule.Slice.PartMut.{put_mid}
 use Rattle.fields.specs.Bytes.{bytes_of, groups}
 use Rattle.fields.proofs.GroupLaws.{group_at, next_group, length_groups}
 
@@ -26,15 +29,31 @@ pub three_numbers : (l l₁ l₂ l₃ : List ℕ) (i j k v w u a b c : ℕ) → 
 three_numbers l l₁ l₂ l₃ i j k v w u a b c e₁ e₂ e₃ ej ek =
     simp append_assoc (number_then l l₁ l₃ (bytes_of w b ++ bytes_of u c) i j v a ej e₁ (number_then l₁ l₂ l₃ (bytes_of u c) j k w b ek e₂ e₃))
 
--- the loop that copies bytes
-module _ (out goal bytes : List ℕ) (at i : ℕ) where
-  pub copy_turn : i < length bytes → sets out (at + i) (drop i bytes) ≡ goal → sets (set out (at + i) (get_or bytes i 0)) (at + (i + 1)) (drop (i + 1) bytes) ≡ goal
-  copy_turn h e =
-      let p : at + (i + 1) ≡ suc (at + i) = omega arith in
-      rw (p, add-one) (rw (drop-cons bytes i 0 h) at e)
+-- a part of a list that is written whole
+pub part_put : (l new bytes : List ℕ) (at width : ℕ) → at + length bytes ≤ length l → width ≡ length bytes → new ≡ bytes → put_mid at width l new ≡ sets l at bytes
+part_put l new bytes at width h ew en = rw (en, ew, drop-drop, sets-eq bytes l at h) (sym (append_assoc (take at l) bytes (drop (at + length bytes) l)))
 
-  pub copy_end : length bytes ≤ i → sets out (at + i) (drop i bytes) ≡ goal → out ≡ goal
-  copy_end h e = rw (drop_of_length-le bytes h) at e
+-- the loop that puts the bytes of a number: the low byte of what is left is the next
+module _ (items goal : List ℕ) (i width left : ℕ) (sized : length items ≡ width) (inv : take i items ++ bytes_of (width - i) left ≡ goal) where
+  pub number_turn : i < width → take (i + 1) (set items i (left % 256)) ++ bytes_of (width - (i + 1)) (left / 256) ≡ goal
+  unfolding bytes_of
+  number_turn h =
+      let q : width - i ≡ suc (width - (i + 1)) = omega arith in
+      let one : take (i + 1) (set items i (left % 256)) ≡ take i items ++ left % 256 ∷ [] = take_more_set items i (left % 256) (omega arith) in
+      rw (one, append_assoc) (rw q at inv)
+
+  number_end : width ≤ i → items ≡ goal
+  unfolding bytes_of
+  number_end h =
+      let q : width - i ≡ 0 = omega arith in
+      let k : length items ≤ i = omega arith in
+      rw (q, take_all i items k, append-nil) at inv
+
+pub number_put : (l items : List ℕ) (at part i width left value : ℕ) → at + width ≤ length l → part ≡ width → length items ≡ width
+    → take i items ++ bytes_of (width - i) left ≡ bytes_of width value → width ≤ i → put_mid at part l items ≡ sets l at (bytes_of width value)
+number_put l items at part i width left value fits ep sized inv h =
+    let size = length_bytes width value in
+    part_put l items (bytes_of width value) at part (rw size fits) (ep ∙ sym size) (number_end items (bytes_of width value) i width left sized inv h)
 
 -- the loop that puts what f makes of each group of a list, `size` numbers each
 module _ {A : Type 0} (f : A → List ℕ) (size width : ℕ) (make : List ℕ → A) (count : ℕ) (l out goal : List ℕ) (at i : ℕ) where

@@ -1,11 +1,13 @@
 // The movements of a sheet, and those that the writer is given.
 ghost use Rattle.std.specs.Prelude.{◌≡◌, ◌≤◌, ◌+◌, ◌*◌, length, drop};
 ghost use Rattle.refusal.specs.Numbers.{first};
+ghost use Rattle.refusal.specs.Refusals.{outcome_number};
 ghost use Rattle.book.specs.Transfer.{most_age};
 ghost use Rattle.fields.specs.Movements.{entry_size, given_size, entry_in, entries_in, given_in, entries_given, entry_checks, given_checks, entries_checks};
 
 use crate::bytes::{read8, read16, read32};
 use crate::layout::{ENTRY_SIZE, GIVEN_SIZE};
+use refusal::Refusal;
 
 // A movement as the sheet has it. The age that the writer is given may be too large for its two bytes.
 #[derive(Clone, Copy)]
@@ -28,11 +30,11 @@ pub fn read_entry(s: &[u8], at: usize) -> Entry
     let minute = read32(s, at + 4);
     let weight = read32(s, at + 8);
     Entry {
-        source: source,
-        destination: destination,
-        age: age,
-        minute: minute,
-        weight: weight,
+        source,
+        destination,
+        age,
+        minute,
+        weight,
     }
 }
 
@@ -50,57 +52,45 @@ pub fn given(numbers: &[u32], at: usize) -> Entry
     }
 }
 
-// The first check that a movement of a sheet fails, or 0.
-fn entry_number(e: Entry, vessels: u32) -> u32
-    ensures { result ≡ first (entry_checks vessels e) }
+// The first check that a movement of a sheet fails.
+fn check_entry(e: Entry, vessels: u32) -> Result<(), Refusal>
+    ensures { outcome_number result ≡ first (entry_checks vessels e) }
 {
-    if e.source >= vessels {
-        return refusal::NO_VESSEL; // no such source
+    if e.source >= vessels || e.destination >= vessels {
+        return Err(Refusal::NoVessel);
     }
-    if e.destination >= vessels {
-        return refusal::NO_VESSEL; // no such destination
-    }
-    0
+    Ok(())
 }
 
-// The first check that a movement given fails, or 0.
-fn given_entry_number(e: Entry, vessels: u32) -> u32
-    ensures { result ≡ first (given_checks vessels e) }
+// The first check that a movement given fails.
+fn check_given(e: Entry, vessels: u32) -> Result<(), Refusal>
+    ensures { outcome_number result ≡ first (given_checks vessels e) }
 {
     if e.age > book::MOST_AGE {
-        return refusal::AGE_OVER;
+        return Err(Refusal::AgeOver);
     }
-    entry_number(e, vessels)
+    check_entry(e, vessels)
 }
 
-// The first check that a movement fails, of those in the bytes, or 0.
-pub fn read_number(entries: &[u8], count: usize, vessels: u32) -> u32
+// The first check that a movement fails, of those in the bytes.
+pub fn check_entries(entries: &[u8], count: usize, vessels: u32) -> Result<(), Refusal>
     requires { entry_size * count ≤ length entries.now }
-    ensures { result ≡ first (entries_checks (entry_checks vessels) (entries_in count entries.now)) }
+    ensures { outcome_number result ≡ first (entries_checks (entry_checks vessels) (entries_in count entries.now)) }
 {
-    let mut i: usize = 0;
-    while i < count {
-        let n = entry_number(read_entry(entries, ENTRY_SIZE * i), vessels);
-        if n != 0 {
-            return n;
-        }
-        i += 1;
+    for i in 0..count {
+        check_entry(read_entry(entries, ENTRY_SIZE * i), vessels)?;
     }
-    0
+    Ok(())
 }
 
-// The first check that a movement fails, of those that the writer is given, or 0.
-pub fn given_number(numbers: &[u32], count: usize, vessels: u32) -> u32
+// The first check that a movement fails, of those that the writer is given.
+pub fn check_all_given(numbers: &[u32], count: usize, vessels: u32) -> Result<(), Refusal>
     requires { given_size * count ≤ length numbers.now }
-    ensures { result ≡ first (entries_checks (given_checks vessels) (entries_given count numbers.now)) }
+    ensures { outcome_number result ≡ first (entries_checks (given_checks vessels) (entries_given count numbers.now)) }
 {
-    let mut i: usize = 0;
-    while i < count {
-        let n = given_entry_number(given(numbers, GIVEN_SIZE * i), vessels);
-        if n != 0 {
-            return n;
-        }
-        i += 1;
+    // `check_entries` over again but for the read and the check, which are all that one function of the two could be told.
+    for i in 0..count {
+        check_given(given(numbers, GIVEN_SIZE * i), vessels)?;
     }
-    0
+    Ok(())
 }

@@ -1,6 +1,6 @@
 // The sizes and limits of a sheet, where the fields of its header lie, and its mark.
 ghost use Rattle.std.specs.Prelude.{◌≡◌};
-ghost use Rattle.fields.specs.Layout.{mark, movements_off};
+ghost use Rattle.fields.specs.Layout.{mark, name_start, sheet_size, movements_off};
 
 pub const MARK_SIZE: usize = 4; // bytes of the mark
 
@@ -31,6 +31,20 @@ pub fn mark() -> [u8; MARK_SIZE]
     ensures { result ≡ mark }
 {
     *b"PROV"
+}
+
+// Where the name of a vessel begins; for as many as there are vessels, where the movements begin.
+pub fn name_start(vessel: u32) -> usize
+    ensures { result ≡ name_start vessel }
+{
+    HEADER_SIZE + NAME_SIZE * (vessel as usize)
+}
+
+// The bytes of a sheet; and where a movement begins, by how many are before it.
+pub fn sheet_size(vessels: u32, movements: u32) -> usize
+    ensures { result ≡ sheet_size vessels movements }
+{
+    name_start(vessels) + ENTRY_SIZE * (movements as usize)
 }
 
 // Whether a sheet cannot have that many movements. It can have none.

@@ -1,33 +1,52 @@
--- Laws of names: the scan of a name for letters, the part of the bytes that is a name, and the ways out of the functions. Assumes nothing.
-use Rattle.std.proofs.Common.{ℕ, suc, ◌+◌, ◌-◌, ◌*◌, ◌<◌, ◌≤◌, add-one, arith, ◌≡◌, sym, ap, ap₂, ◌∙◌, Bool, true, false, not, List, [], lt-ltb, ltb, length, get_or, take, drop, drop_of_length-le, drop-cons}
-use native.Mathlib.Nat.{add-sub_cancel_left}
-use borrow.Author.Tests.{not-true, not-false}
+-- Laws of names: what std counts, tests and compares as document 01 does, and the part of the bytes that is a name. Assumes nothing.
+use Rattle.std.proofs.Common.{ℕ, suc, ◌+◌, ◌-◌, ◌*◌, ◌<◌, ◌≤◌, arith, ◌≡◌, refl, sym, ap, ap₂, ◌∙◌, Bool, true, false, not, cond, List, [], ◌∷◌, eqb, ltb, lt-ltb, length, take, drop}
+use Rattle.std.specs.Char.{is_ascii_graphic}
+use Rattle.std.specs.Cmp.Lexicographic.{pointwise}
+use Rattle.std.specs.List.{list_all, prefix_len}
 use Rattle.book.specs.Head.{same, all_zero}
 use Rattle.fields.specs.Layout.{name_size}
-use Rattle.names.specs.Names.{graphic, letters, well_formed, name_at, used_in, name_off}
-use Rattle.fields.proofs.ByteLaws.{is_same, rest_part}
+use Rattle.names.specs.Names.{graphic, letters, one_more_if, well_formed, name_at, name_off, used_in}
+use Rattle.fields.proofs.ByteLaws.{rest_part, slices_compared}
 use Rattle.fields.proofs.GroupLaws.{group_at}
 
--- a scan for the first byte that is no letter: a turn, a find, the end
-module _ (s : List ℕ) (i m : ℕ) (r : Bool) where
-  pub letters_turn : i < length s → r ≡ graphic (get_or s i 0) → not r ≡ false → i + letters (drop i s) ≡ m → i + 1 + letters (drop (i + 1) s) ≡ m
-  unfolding letters
-  letters_turn h t e q =
-      let n : letters (drop i s) ≡ suc (letters (drop (i + 1) s)) = simp (add-one, drop-cons s i 0 h, sym t ∙ not-false r e) in
-      omega arith
-
-  pub letters_stop : i < length s → r ≡ graphic (get_or s i 0) → not r ≡ true → i + letters (drop i s) ≡ m → i ≡ m
-  unfolding letters
-  letters_stop h t e q = let n : letters (drop i s) ≡ 0 = simp (drop-cons s i 0 h, sym t ∙ not-true r e) in omega arith
-
-pub letters_end : (s : List ℕ) (i m : ℕ) → length s ≤ i → i + letters (drop i s) ≡ m → i ≡ m
+-- std's count of graphic bytes from the front on is the letters
+pub letters_counted : (s : List ℕ) → prefix_len is_ascii_graphic s ≡ letters s
 unfolding letters
-letters_end s i m h q = let n : letters (drop i s) ≡ 0 = rw (drop_of_length-le s h) in omega arith
+letters_counted [] = refl
+letters_counted (b ∷ s) = go (graphic b) (letters_counted s)
+  where
+    go : (t : Bool) → prefix_len is_ascii_graphic s ≡ letters s → cond t (1 + prefix_len is_ascii_graphic s) 0 ≡ one_more_if t (letters s)
+    go true ih = omega (arith, ih)
+    go false ih = refl
+
+pub few_letters : (s : List ℕ) → letters s ≤ length s
+unfolding letters
+few_letters [] = omega arith
+few_letters (b ∷ s) = go (graphic b) (few_letters s)
+  where
+    go : (t : Bool) → letters s ≤ length s → one_more_if t (letters s) ≤ suc (length s)
+    go true ih = omega arith
+    go false ih = omega arith
+
+-- std's test of each byte is that all are zeros
+pub zeros_tested : (s : List ℕ) → list_all (λ b. eqb b 0) s ≡ all_zero s
+unfolding all_zero
+zeros_tested [] = refl
+zeros_tested (b ∷ s) = rw (zeros_tested s)
+
+-- the eight bytes from which a vessel's name is read
+module _ (l : List ℕ) (vessels : ℕ) where
+  name_part : (i : ℕ) (a : List ℕ) → i < vessels → a ≡ take name_size (drop (name_size * i) l) → a ≡ name_at vessels l i
+  name_part i a h e = e ∙ sym (group_at name_size (take name_size) vessels l i [] h)
+
+  pub names_compared : (i j : ℕ) (a b : List ℕ) (r : Bool) → i < vessels → j < vessels → a ≡ take name_size (drop (name_size * i) l)
+      → b ≡ take name_size (drop (name_size * j) l) → r ≡ pointwise eqb a b → r ≡ same (name_at vessels l i) (name_at vessels l j)
+  names_compared i j a b r hi hj ea eb er = er ∙ slices_compared a b ∙ ap₂ same (name_part i a hi ea) (name_part j b hj eb)
 
 -- the two ways out of `well_formed`
-pub no_letters : (s : List ℕ) (n : ℕ) → n ≡ letters s → n ≡ 0 → false ≡ well_formed s
+pub no_letters : (s : List ℕ) (n : ℕ) → n ≡ letters s → n ≡ 0 → not (eqb n 0) ≡ well_formed s
 unfolding well_formed
-no_letters s n e z = rw (sym e ∙ z)
+no_letters s n e z = rw (sym e ∙ z, z)
 
 pub letters_then : (s : List ℕ) (n : ℕ) (r : Bool) → n ≡ letters s → (n ≡ 0 → ⊥) → r ≡ all_zero (take (length s - n) (drop n s)) → r ≡ well_formed s
 unfolding well_formed
@@ -35,25 +54,13 @@ letters_then s n r e z t =
     let p : ltb 0 (letters s) ≡ true = lt-ltb 0 (letters s) (omega arith) in
     t ∙ ap all_zero (rest_part s n) ∙ simp (e, p)
 
--- the eight bytes from which vessel i's name is read
-name_part : (l : List ℕ) (vessels i : ℕ) → i < vessels → take (name_size * i + name_size - name_size * i) (drop (name_size * i) l) ≡ name_at vessels l i
-name_part l vessels i h = rw (add-sub_cancel_left, group_at name_size (take name_size) vessels l i [] h)
-
--- a comparison of two parts compares two names
-pub same_names : (l : List ℕ) (vessels i j : ℕ) (r : Bool) → i < vessels → j < vessels
-    → (r ≡ true → take (name_size * i + name_size - name_size * i) (drop (name_size * i) l) ≡ take (name_size * j + name_size - name_size * j) (drop (name_size * j) l))
-    → (take (name_size * i + name_size - name_size * i) (drop (name_size * i) l) ≡ take (name_size * j + name_size - name_size * j) (drop (name_size * j) l) → r ≡ true)
-    → r ≡ same (name_at vessels l i) (name_at vessels l j)
-same_names l vessels i j r hi hj f g =
-    is_same _ _ r f g ∙ ap₂ same (name_part l vessels i hi) (name_part l vessels j hj)
-
 -- the two ways out of `name_off`
-module _ (l : List ℕ) (vessels i : ℕ) (w : Bool) (rest : List (List ℕ)) (h : i < vessels) (e : w ≡ well_formed (take (name_size * i + name_size - name_size * i) (drop (name_size * i) l))) where
-  well : w ≡ well_formed (name_at vessels l i)
-  well = e ∙ ap well_formed (name_part l vessels i h)
+module _ (l : List ℕ) (vessels i : ℕ) (a : List ℕ) (rest : List (List ℕ)) (w : Bool) (h : i < vessels) (ea : a ≡ take name_size (drop (name_size * i) l)) (ew : w ≡ well_formed a) where
+  formed : w ≡ well_formed (name_at vessels l i)
+  formed = ew ∙ ap well_formed (name_part l vessels i a h ea)
 
-  pub ill_formed : not w ≡ true → true ≡ name_off (name_at vessels l i) rest
-  ill_formed t = rw (sym well ∙ not-true w t)
+  pub ill_formed : w ≡ false → true ≡ name_off (name_at vessels l i) rest
+  ill_formed q = rw (← formed, q)
 
-  pub not_ill_formed : (r : Bool) → not w ≡ false → r ≡ used_in (name_at vessels l i) rest → r ≡ name_off (name_at vessels l i) rest
-  not_ill_formed r t q = rw (sym well ∙ not-false w t) q
+  pub not_ill_formed : (r : Bool) → w ≡ true → r ≡ used_in (name_at vessels l i) rest → r ≡ name_off (name_at vessels l i) rest
+  not_ill_formed r q e = rw (← formed, q) e

@@ -18,7 +18,7 @@ use Rattle.sheet.specs.Answers.{movement_answer, movement_at}
 use Rattle.writing.specs.Writing.{count_given, header_bytes, sheet_of, given_off, count_checks, content_checks, room_check, write_number}
 use Rattle.roundtrip.specs.Rewriting.{names_of, numbers_of}
 use Rattle.fields.proofs.GroupLaws.{group_at, length_groups, groups_append}
-use Rattle.sheet.proofs.HeaderLaws.{out_none}
+use Rattle.sheet.proofs.HeaderLaws.{counts_pass}
 use Rattle.sheet.proofs.ReadLaws.{Laid, good, good_names, good_entries}
 use Rattle.sheet.proofs.AnswerLaws.{entry_of}
 use Rattle.writing.proofs.WriteLaws.{named_movements}
@@ -113,8 +113,8 @@ module _ (s : List ℕ) (read : read_number s ≡ 0) (bytes : Below 256 s) where
 
   counts_good : 0 ≡ first (count_checks (rule_of s) vessels (names_of s) (numbers_of s))
   counts_good =
-      out_none (rule_of s) vessels 0 16 15 (given_off vessels (names_of s) (numbers_of s)) (movements_off (count_given (numbers_of s)))
-      (sym laid.opens) refl false (sym given_good) refl false (rw same_count (sym laid.inside)) refl
+      counts_pass (rule_of s) vessels 16 15 (given_off vessels (names_of s) (numbers_of s)) (movements_off (count_given (numbers_of s))) laid.opens given_good
+      (rw same_count laid.inside)
 
   same_names : names_in vessels (drop header_size s) ≡ names_in vessels (names_of s)
   same_names =

@@ -1,17 +1,22 @@
--- The ways out of `rewrite`: the sheet's own number; or what was read is written, where only the room may be short, and what is written is the sheet.
+-- The ways out of `try_rewrite`: the sheet's own number; or what was read is written, where only the room may be short, and what is written is the sheet.
 -- Assumes nothing.
 use Rattle.std.proofs.Common.{ℕ, ◌+◌, ◌*◌, ◌-◌, ◌≤◌, arith, ◌≡◌, refl, sym, ◌∙◌, List, ◌++◌, ltb, length, take, drop, replicate, take_at}
-use native.Mathlib.Nat.{sub-zero, add-sub_cancel_left}
+use native.Mathlib.Nat.{add-sub_cancel_left}
 use lib.ListN.{length-replicate}
 use lib.Seq.{sets, sets-eq, length-sets}
+use Rattle.std.specs.Prelude.{Result, Err}
+use Rattle.std.specs.Result.{IsErrAnd}
+use Rattle.refusal.specs.declared.Refusal.{Refusal}
+use Rattle.refusal.specs.Refusals.{number_of, outcome_number}
 use Rattle.refusal.specs.Numbers.{◌if◌}
 use Rattle.refusal.proofs.Numbers.{not_zero}
 use Rattle.fields.specs.Movements.{given_size}
 use Rattle.fields.specs.Layout.{header_size, name_start, sheet_size, most_movements}
 use Rattle.fields.proofs.BackLaws.{Below}
+use Rattle.fields.proofs.Outcomes.{refused, passed_on}
 use Rattle.sheet.specs.declared.answer.Reading.{Reading}
 use Rattle.sheet.specs.Sheet.{rule_of, vessels_of, movements_of, read_number}
-use Rattle.sheet.specs.Answers.{reading}
+use Rattle.sheet.specs.Answers.{reading, refused_reading}
 use Rattle.sheet.proofs.ReadLaws.{Laid, good}
 use Rattle.sheet.proofs.AnswerLaws.{asked_refused, asked_good, read_zero, read_vessels, read_movements, header}
 use Rattle.writing.specs.Writing.{count_given, write_number, written}
@@ -19,18 +24,20 @@ use Rattle.roundtrip.specs.Rewriting.{names_of, numbers_of, rewrite_number, rewr
 use Rattle.roundtrip.proofs.ReadRewrites as again
 use Rattle.roundtrip.proofs.RoundTrip.{read_rewrites}
 
--- The memory that `rewrite` lends for the numbers: large enough for any sheet.
+-- The memory that `try_rewrite` lends for the numbers: large enough for any sheet.
 abbrev pub memory : List ℕ
 memory = replicate (given_size * most_movements) 0
 
--- What `rewrite` gives back and leaves.
+-- What `try_rewrite` gives back and leaves.
 abbrev pub Again : List ℕ → List ℕ → ℕ → List ℕ → Type 0
 Again s out n out' = (n ≡ rewrite_number s (length out)) × (out' ≡ rewritten s out)
 
-pub again_refused : (s out : List ℕ) (r : Reading) → r ≡ reading s → (r.number ≡ 0 → ⊥) → Again s out r.number out
-again_refused s out r e h =
-    let n = asked_refused s r e (19 if ltb (length out) (length s)) h in
-    (n, rw (← n) (not_zero r.number (s ++ drop (length s) out) out h))
+pub again_refused : (s out : List ℕ) (r : Result Unit Refusal) (why : Refusal) → IsErrAnd r (λ (other : Refusal). other ≡ why)
+    → refused_reading (number_of why) ≡ reading s → Again s out (outcome_number r) out
+again_refused s out r why is e =
+    let h = refused (Err why) refl in
+    let n = asked_refused s (refused_reading (number_of why)) e (19 if ltb (length out) (length s)) h in
+    (passed_on r why _ is n, rw (← n) (not_zero (number_of why) (s ++ drop (length s) out) out h))
 
 module _ (s : List ℕ) (r : Reading) (e : r ≡ reading s) (z : r.number ≡ 0) where
   reads : read_number s ≡ 0
@@ -55,12 +62,12 @@ module _ (s : List ℕ) (r : Reading) (e : r ≡ reading s) (z : r.number ≡ 0)
     numbers_fit = rw (et, length-sets) take_fits.2
 
     module _ (bytes : Below 256 s) where
-      numbers_part : take (given_size * r.movements - 0) (drop 0 taken) ≡ numbers_of s
+      numbers_part : take (given_size * r.movements) taken ≡ numbers_of s
       numbers_part =
           let size = again.numbers s reads bytes in
           let m = read_movements s r e z in
           let fits : 0 + length (numbers_of s) ≤ length memory = omega (arith, take_fits.2) in
-          rw (sub-zero, et, sets-eq (numbers_of s) memory 0 fits)
+          rw (et, sets-eq (numbers_of s) memory 0 fits)
           (take_at (numbers_of s) (drop (0 + length (numbers_of s)) memory) (given_size * r.movements) (omega arith))
 
       same_size : sheet_size (vessels_of s) (count_given (numbers_of s)) ≡ length s
@@ -71,13 +78,13 @@ module _ (s : List ℕ) (r : Reading) (e : r ≡ reading s) (z : r.number ≡ 0)
         number : write_number (rule_of s) (vessels_of s) (names_of s) (numbers_of s) (length out) ≡ rewrite_number s (length out)
         number = again.asks_room s reads bytes (length out) ∙ rw (asked_good s r e z, laid.size)
 
-        pub again_good : (n : ℕ) (out' : List ℕ)
-            → let names = take (name_start r.vessels - header_size) (drop header_size s) in
-            let numbers = take (given_size * r.movements - 0) (drop 0 taken) in
+        pub again_good : (end n : ℕ) (out' : List ℕ) → end ≡ name_start r.vessels
+            → let names = take (end - header_size) (drop header_size s) in
+            let numbers = take (given_size * r.movements) taken in
             (n ≡ write_number r.rule r.vessels names numbers (length out)) × (out' ≡ written r.rule r.vessels names numbers out)
             → Again s out n out'
-        again_good n out' p =
+        again_good end n out' ee p =
             let q : (n ≡ write_number (rule_of s) (vessels_of s) (names_of s) (numbers_of s) (length out))
             × (out' ≡ written (rule_of s) (vessels_of s) (names_of s) (numbers_of s) out) =
-            rw (names_part, numbers_part, header s r e z) at p in
+            rw (ee, names_part, numbers_part, header s r e z) at p in
             (q.0 ∙ number, q.1 ∙ rw (number, (read_rewrites s reads bytes).bytes, same_size))

@@ -1,5 +1,5 @@
 -- Laws of the numbers of a sheet's movements, taken into lent memory. Assumes nothing.
-use Rattle.std.proofs.Common.{ℕ, suc, ◌+◌, ◌*◌, ◌<◌, ◌≤◌, zero-add, arith, ◌≡◌, refl, ap, ◌∙◌, List, [], ◌∷◌, set, drop, drop-drop}
+use Rattle.std.proofs.Common.{ℕ, ◌+◌, ◌*◌, ◌<◌, ◌≤◌, zero-add, ◌≡◌, refl, ap, ◌∙◌, List, drop, drop-drop}
 use lib.Seq.{sets}
 use Rattle.fields.specs.Movements.{given_size, entry_size, entry_in, entry_numbers, numbers_in}
 use Rattle.fields.specs.Layout.{entries_start}
@@ -8,16 +8,6 @@ use Rattle.sheet.specs.declared.answer.Movement.{Movement}
 use Rattle.sheet.specs.Sheet.{vessels_of, movements_of, entries_read}
 use Rattle.sheet.specs.Answers.{movement_at}
 use Rattle.roundtrip.specs.Rewriting.{movement_numbers}
-
--- five numbers put one behind the other
-pub five_put : (l : List ℕ) (at a b c d e : ℕ)
-    → set (set (set (set (set l at a) (at + 1) b) (at + 2) c) (at + 3) d) (at + 4) e ≡ sets l at (a ∷ b ∷ c ∷ d ∷ e ∷ [])
-five_put l at a b c d e =
-    let one : at + 1 ≡ suc at = omega arith in
-    let two : at + 2 ≡ suc (suc at) = omega arith in
-    let three : at + 3 ≡ suc (suc (suc at)) = omega arith in
-    let four : at + 4 ≡ suc (suc (suc (suc at))) = omega arith in
-    simp (one, two, three, four)
 
 -- the loop that takes the numbers of each movement
 module _ (s out goal : List ℕ) (count i : ℕ) (all : count ≡ movements_of s) where

@@ -1,6 +1,6 @@
 -- What was written is read as it was given. A sheet is its header, then its names, then its movements. The header's numbers come back from their bytes, the names lie as they
 -- were given, and each movement comes back from its twelve bytes, since its numbers fit them. Assumes nothing.
-use Rattle.std.proofs.Common.{ℕ, ◌+◌, ◌*◌, ◌<◌, ◌≤◌, arith, ◌≡◌, refl, sym, ap, ◌∙◌, false, List, [], ◌++◌, append_assoc, le-ltb, eq-eqb, length, get_or, take, drop, drop_at, drop-drop, get_or-drop}
+use Rattle.std.proofs.Common.{ℕ, ◌+◌, ◌*◌, ◌<◌, ◌≤◌, arith, ◌≡◌, refl, sym, ap, ◌∙◌, false, List, [], ◌++◌, append_assoc, le-ltb, length, get_or, take, drop, drop_at, drop-drop, get_or-drop}
 use lib.Seq.{take-append-le}
 use Rattle.refusal.specs.Numbers.{first}
 use Rattle.refusal.proofs.Numbers.{passes}
@@ -15,7 +15,7 @@ use Rattle.sheet.specs.Answers.{reading, movement_answer, movement_at, movement_
 use Rattle.writing.specs.Writing.{count_given, header_bytes, sheet_of, write_number}
 use Rattle.fields.proofs.GroupLaws.{group_at, groups_append, length_groups}
 use Rattle.sheet.proofs.AnswerLaws.{number_read, asked_inside, entry_of, name_of}
-use Rattle.sheet.proofs.HeaderLaws.{real_length, out_none, out_fields}
+use Rattle.sheet.proofs.HeaderLaws.{laid_out, counts_pass, out_fields}
 use Rattle.writing.proofs.SheetPut.{length_header}
 use Rattle.writing.proofs.WriteLaws.{Counted, Content, write_counted, write_content, length_sheet}
 use Rattle.fields.proofs.EntryLaws.{all_sound, ages_fit}
@@ -109,15 +109,10 @@ module _ (rule vessels room : ℕ) (names numbers : List ℕ) (accepted : write_
       let m : take mark_size s ≡ mark = rw split in
       rw (le-ltb (length s) header_size h, m, same_refl mark)
 
-  laid_out : layout_off vessels count s ≡ false
-  laid_out =
-      sym (real_length s vessels count header_size (sym header.names) (entries_start vessels) (sym header.start) refl (sheet_size vessels count) (sym header.size) refl refl)
-      ∙ rw (eq-eqb (length s) (sheet_size vessels count) long)
-
   good_header : 0 ≡ first (header_checks s)
   good_header =
       out_fields s false rule vessels count 0 (sym is_sheet) refl (sym header.known) (sym header.held) (sym header.moved)
-      (out_none rule vessels 0 15 16 (movements_off count) (layout_off vessels count s) (sym counted.opens) refl false (sym counted.inside) refl false (sym laid_out) refl)
+      (counts_pass rule vessels 15 16 (movements_off count) (layout_off vessels count s) counted.opens counted.inside (laid_out s vessels count header.names header.start header.size long))
 
   good_body : 0 ≡ first (body_checks (vessels_of s) (movements_of s) s)
   good_body =

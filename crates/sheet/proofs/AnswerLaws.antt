@@ -1,35 +1,37 @@
--- Laws of the answers: each way out of `read`, `movement`, `name_number` and `name`, and the bounds that a good answer gives.
+-- Laws of the answers: each way out of `read_header`, `find_movement` and `check_vessel`, and the bounds that a good answer gives.
 -- Assumes nothing.
-use Rattle.std.proofs.Common.{ℕ, zero, suc, ◌+◌, ◌*◌, ◌-◌, ◌<◌, ◌≤◌, arith, ◌≡◌, refl, sym, ap, ◌∙◌, List, [], ◌∷◌, leb-false, le-leb, leb, get_or, length, take, drop, length-take, take-take, drop-drop}
-use native.Mathlib.Nat.{add-sub_cancel_left}
+use Rattle.std.proofs.Common.{ℕ, zero, suc, ◌+◌, ◌*◌, ◌<◌, ◌≤◌, arith, ◌≡◌, refl, sym, ap, ◌∙◌, List, [], ◌∷◌, leb-false, le-leb, leb, get_or, length, take, drop, drop-drop}
 use borrow.Author.Tests.{lt-leb}
+use Rattle.std.specs.Prelude.{Result, Ok, Err}
+use Rattle.std.specs.Result.{IsErrAnd}
+use Rattle.refusal.specs.declared.Refusal.{Refusal}
+use Rattle.refusal.specs.Refusals.{number_of}
 use Rattle.refusal.specs.Numbers.{Check, ◌if◌, first, if_zero}
 use Rattle.refusal.proofs.Numbers.{passed, not_zero, first_zero}
+use Rattle.sheet.specs.declared.answer.Header.{Header}
 use Rattle.sheet.specs.declared.answer.Reading.{Reading}
 use Rattle.sheet.specs.declared.answer.Movement.{Movement}
-use Rattle.fields.specs.declared.entries.Entry.{Entry}
 use Rattle.fields.specs.Layout.{name_size, header_size, name_start, entries_start}
-use Rattle.names.specs.Names.{letters, short_name}
 use Rattle.fields.specs.Movements.{entry_size, entry_in, no_entry}
-use Rattle.sheet.specs.Sheet.{entries_read, names_read, rule_of, vessels_of, movements_of, read_number}
-use Rattle.sheet.specs.Answers.{header_of, refused_reading, reading, movement_answer, asked_number, movement_at, movement_number, movement_asked, name_number, name_bytes, name_asked, name_place}
+use Rattle.sheet.specs.Sheet.{entries_read, names_read, vessels_of, movements_of, read_number}
+use Rattle.sheet.specs.Answers.{header_numbers, header_of, refused_reading, reading, reading_of, movement_of, movement_answer, asked_number, movement_at, movement_number, movement_asked, name_number, name_bytes}
 use Rattle.fields.proofs.GroupLaws.{group_at}
+use Rattle.fields.proofs.Outcomes.{refused as no_zero}
 use Rattle.sheet.proofs.ReadLaws.{good}
-
-pub header_says : (s : List ℕ) (rule vessels movements : ℕ) → rule ≡ rule_of s → vessels ≡ vessels_of s → movements ≡ movements_of s
-    → ◌≡◌ {A = Reading} record { number = 0; rule = rule; vessels = vessels; movements = movements } (header_of s)
-header_says s rule vessels movements er ev em = simp (er, ev, em)
 
 pub sheet_fits : (s : List ℕ) (n k : ℕ) → n ≡ read_number s → n ≡ 0 → k ≤ header_size → k ≤ length s
 sheet_fits s n k e z h = let l = good s n e z in omega arith
 
--- the ways out of `read`
-module _ (s : List ℕ) (n : ℕ) (e : n ≡ read_number s) where
-  pub read_refused : (n ≡ 0 → ⊥) → refused_reading n ≡ reading s
-  read_refused h = rw (← e) (not_zero n (header_of s) (refused_reading n) h)
+-- the ways out of `read_header`
+module _ (s : List ℕ) where
+  pub header_refused : (r : Result Header Refusal) (why : Refusal) → IsErrAnd r (λ (other : Refusal). other ≡ why) → number_of why ≡ read_number s → reading_of r ≡ reading s
+  header_refused (Ok h) why is e = absurd is
+  header_refused (Err other) why is e =
+      let n : number_of other ≡ read_number s = ap number_of is ∙ e in
+      rw (← n) (not_zero (number_of other) (header_of s) (refused_reading (number_of other)) (no_zero (Err other) refl))
 
-  pub read_good : (r : Reading) → n ≡ 0 → r ≡ header_of s → r ≡ reading s
-  read_good r z er = rw (← e, z) er
+  pub header_good : (h : Header) → h ≡ header_numbers s → 0 ≡ read_number s → reading_of (Ok h) ≡ reading s
+  header_good h eh e = rw (eh, ← e)
 
 -- what a reading tells
 module _ (s : List ℕ) (r : Reading) (e : r ≡ reading s) where
@@ -71,7 +73,7 @@ module _ (s : List ℕ) (r : Reading) (e : r ≡ reading s) where
     pub asked_inside : (number count index : ℕ) → index < count → 0 ≡ asked_number s (number if leb count index)
     asked_inside number count index h = rw (asked_good, lt-leb count index h)
 
--- the ways out of `movement`
+-- the ways out of `find_movement`
 module _ (s : List ℕ) (r : Reading) (index : ℕ) (e : r ≡ reading s) (m : Movement) where
   refused : (n : ℕ) → n ≡ movement_number s index → (n ≡ 0 → ⊥) → m ≡ movement_answer n no_entry → m ≡ movement_asked s index
   refused n en h em = em ∙ rw (← en) (not_zero n (movement_at s index) (movement_answer n no_entry) h)
@@ -87,7 +89,17 @@ module _ (s : List ℕ) (r : Reading) (index : ℕ) (e : r ≡ reading s) (m : M
     pub movement_good : index < r.movements → m ≡ movement_at s index → m ≡ movement_asked s index
     movement_good h em = em ∙ rw (← asked_inside s r e z 20 (movements_of s) index (index_good s r e z index h))
 
--- the ways out of `name_number`
+pub find_refused : (s : List ℕ) (index : ℕ) (r : Result Movement Refusal) (why : Refusal) → IsErrAnd r (λ (other : Refusal). other ≡ why)
+    → refused_reading (number_of why) ≡ reading s → movement_of r ≡ movement_asked s index
+find_refused s index (Ok m) why is e = absurd is
+find_refused s index (Err other) why is e =
+    let n : refused_reading (number_of other) ≡ reading s = ap (λ (w : Refusal). refused_reading (number_of w)) is ∙ e in
+    movement_refused s (refused_reading (number_of other)) index n (movement_answer (number_of other) no_entry) (no_zero (Err other) refl) refl
+
+-- the ways out of `check_vessel`
+pub vessel_refused : (s : List ℕ) (vessel : ℕ) (why : Refusal) → refused_reading (number_of why) ≡ reading s → number_of why ≡ name_number s vessel
+vessel_refused s vessel why e = asked_refused s (refused_reading (number_of why)) e (5 if leb (vessels_of s) vessel) (no_zero (Err why) refl)
+
 module _ (s : List ℕ) (r : Reading) (vessel : ℕ) (e : r ≡ reading s) (z : r.number ≡ 0) where
   pub vessel_past : r.vessels ≤ vessel → 5 ≡ name_number s vessel
   vessel_past h = asked_past s r e z 5 (vessels_of s) vessel (rw (← read_vessels s r e z) h)
@@ -96,46 +108,19 @@ module _ (s : List ℕ) (r : Reading) (vessel : ℕ) (e : r ≡ reading s) (z : 
   vessel_good h = asked_inside s r e z 5 (vessels_of s) vessel (rw (← read_vessels s r e z) h)
 
 -- the movement at an index lies in a sheet that reads well
-module _ (s : List ℕ) (index vessels : ℕ) (ev : vessels ≡ vessels_of s) where
-  pub entry_fits : read_number s ≡ 0 → index < movements_of s → entries_start vessels + entry_size * index + entry_size ≤ length s
-  entry_fits z h = let l = good s _ refl z in omega arith
+pub entry_fits : (s : List ℕ) (index vessels : ℕ) → vessels ≡ vessels_of s → read_number s ≡ 0 → index < movements_of s
+    → entries_start vessels + entry_size * index + entry_size ≤ length s
+entry_fits s index vessels ev z h = let l = good s _ refl z in omega arith
 
-  pub movement_says : (e : Entry) → e ≡ entry_in (drop (entries_start vessels + entry_size * index) s) → movement_answer 0 e ≡ movement_at s index
-  movement_says e ee = rw (ee, ev)
-
--- the ways out of `name`
-module _ (s : List ℕ) (vessel n : ℕ) (e : n ≡ name_number s vessel) where
-  pub name_none : (n ≡ 0 → ⊥) → [] ≡ name_asked s vessel
-  name_none h = rw (← e) (not_zero n (short_name (name_bytes s vessel)) [] h)
-
-  pub place_none : (n ≡ 0 → ⊥) → (p : ℕ) → 0 + p ≡ name_place s vessel + p
-  place_none h p = ap (λ (k : ℕ). k + p) (rw (← e) (not_zero n (name_start vessel) 0 h))
-
-  module _ (z : n ≡ 0) where
-    pub place_at : (p : ℕ) → name_start vessel + p ≡ name_place s vessel + p
-    place_at p = rw (← e, z)
-
-    pub name_fits : name_start vessel + name_size ≤ length s
-    unfolding asked_number
-    name_fits =
-        let k = first ((5 if leb (vessels_of s) vessel) ∷ []) in
-        let q : read_number s ≡ 0 = first_zero (read_number s) k (sym e ∙ z) in
-        let p : k ≡ 0 = rw q at (sym e ∙ z) in
-        let l = good s _ refl q in
-        omega (arith, leb-false (vessels_of s) vessel (passed ((5 if leb (vessels_of s) vessel) ∷ []) tt p).0)
-
-    module _ (count : ℕ) (long : count ≤ length (take (name_start vessel + name_size - (name_start vessel)) (drop (name_start vessel) s))) where
-      few : count ≤ name_size
-      few = let h = rw (add-sub_cancel_left, length-take) at long in omega arith
-
-      pub stop_fits : name_start vessel + count ≤ length s
-      stop_fits = omega (arith, few, name_fits)
-
-      pub name_says : count ≡ letters (take (name_start vessel + name_size - (name_start vessel)) (drop (name_start vessel) s))
-          → take (name_start vessel + count - (name_start vessel)) (drop (name_start vessel) s) ≡ name_asked s vessel
-      name_says ec =
-          let ec' : count ≡ letters (name_bytes s vessel) = rw add-sub_cancel_left at ec in
-          rw (← e, z, add-sub_cancel_left, ← ec', take-take count name_size (drop (name_start vessel) s) few)
+-- the eight bytes of a name lie in a sheet that has it
+pub name_fits : (s : List ℕ) (vessel n : ℕ) → n ≡ name_number s vessel → n ≡ 0 → name_start vessel + name_size ≤ length s
+unfolding asked_number
+name_fits s vessel n e z =
+    let k = first ((5 if leb (vessels_of s) vessel) ∷ []) in
+    let q : read_number s ≡ 0 = first_zero (read_number s) k (sym e ∙ z) in
+    let p : k ≡ 0 = rw q at (sym e ∙ z) in
+    let l = good s _ refl q in
+    omega (arith, leb-false (vessels_of s) vessel (passed ((5 if leb (vessels_of s) vessel) ∷ []) tt p).0)
 
 -- the movements and the names of a sheet, each by its index
 pub entry_of : (s : List ℕ) (i : ℕ) → i < movements_of s → movement_at s i ≡ movement_answer 0 (get_or (entries_read s) i no_entry)

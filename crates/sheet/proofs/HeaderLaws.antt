@@ -1,18 +1,30 @@
 -- Laws of the header: what each check tells once it is passed, and the number at each way out. Assumes nothing.
-use Rattle.std.proofs.Common.{ℕ, ◌≤◌, arith, ◌≡◌, sym, ap, ◌∙◌, Bool, true, false, not, List, [], ◌∷◌, ◌++◌, ltb-false, eq-eqb, ne_eqb, le-ltb, eqb, ltb, length, take, drop}
+use Rattle.std.proofs.Common.{ℕ, ◌≤◌, arith, ◌≡◌, refl, sym, ap, ◌∙◌, Bool, false, not, List, [], ◌∷◌, ◌++◌, ltb-false, eq-eqb, eqb-true, le-ltb, eqb, ltb, length, take, drop}
+use Rattle.std.specs.Cmp.Lexicographic.{pointwise}
 use Rattle.refusal.specs.Numbers.{◌if◌, first}
-use Rattle.refusal.proofs.Numbers.{neither, refuses, passes}
-use Rattle.book.proofs.HeadLaws.{openable}
+use Rattle.refusal.proofs.Numbers.{neither, passes}
+use Rattle.book.proofs.HeadLaws.{openable, same_test}
 use Rattle.book.specs.Head.{same, most_vessels, open_checks}
 use Rattle.fields.specs.Bytes.{value_in}
 use Rattle.fields.specs.Layout.{mark, mark_size, header_size, names_at, entries_at, length_at, sheet_size, entries_start}
 use Rattle.sheet.specs.Sheet.{rule_of, vessels_of, movements_of, no_sheet, layout_off, field_checks, header_checks}
-use Rattle.fields.proofs.ByteLaws.{is_same}
+use Rattle.fields.proofs.ByteLaws.{slices_compared}
 
-pub unmarked : (s letters : List ℕ) (r : Bool) → header_size ≤ length s → letters ≡ mark
-    → (r ≡ true → take mark_size s ≡ letters) → (take mark_size s ≡ letters → r ≡ true) → not r ≡ no_sheet s
+-- either list may be compared with the other
+same_either : (a b : List ℕ) → same a b ≡ same b a
+unfolding same
+same_either [] [] = refl
+same_either [] (y ∷ b) = refl
+same_either (x ∷ a) [] = refl
+same_either (x ∷ a) (y ∷ b) =
+    let e : eqb x y ≡ eqb y x = same_test (eqb x y) (eqb y x) (λ q. eq-eqb y x (sym (eqb-true x y q))) (λ q. eq-eqb x y (sym (eqb-true y x q))) in
+    rw (e, same_either a b)
+
+pub unmarked : (s letters : List ℕ) (r : Bool) → header_size ≤ length s → letters ≡ mark → r ≡ pointwise eqb letters (take (length letters) s) → not r ≡ no_sheet s
 unfolding no_sheet
-unmarked s letters r h e f g = rw (le-ltb _ _ h, ← e) (ap not (is_same (take mark_size s) letters r f g))
+unmarked s letters r h e q =
+    let m : r ≡ same (take mark_size s) mark = q ∙ rw e (slices_compared mark (take mark_size s) ∙ same_either mark (take mark_size s)) in
+    rw (le-ltb _ _ h) (ap not m)
 
 pub sheet_holds : (s : List ℕ) (k : ℕ) (r : Bool) → r ≡ no_sheet s → r ≡ false → k ≤ header_size → k ≤ length s
 unfolding no_sheet
@@ -22,46 +34,18 @@ sheet_holds s k r e q h =
 pub few_vessels : (rule vessels n : ℕ) → n ≡ first (open_checks rule vessels) → n ≡ 0 → vessels ≤ most_vessels
 few_vessels rule vessels n e z = (openable rule vessels (sym e ∙ z)).few_vessels
 
--- the ways out of `layout_off`
-module _ (s : List ℕ) (vessels movements names : ℕ) (en : names ≡ value_in 4 (drop names_at s)) where
-  pub names_elsewhere : (names ≡ header_size → ⊥) → true ≡ layout_off vessels movements s
-  unfolding layout_off
-  names_elsewhere h = rw (← en, ne_eqb _ _ h)
+-- where every field of the layout is as it must be, it is not off
+pub laid_out : (s : List ℕ) (vessels movements : ℕ) → value_in 4 (drop names_at s) ≡ header_size → value_in 4 (drop entries_at s) ≡ entries_start vessels
+    → value_in 4 (drop length_at s) ≡ sheet_size vessels movements → length s ≡ sheet_size vessels movements → layout_off vessels movements s ≡ false
+unfolding layout_off
+laid_out s vessels movements en es el size = rw (eq-eqb _ _ en, eq-eqb _ _ es, eq-eqb _ _ el, eq-eqb _ _ size)
 
-  module _ (start : ℕ) (es : start ≡ value_in 4 (drop entries_at s)) (hn : names ≡ header_size) where
-    pub entries_elsewhere : (start ≡ entries_start vessels → ⊥) → true ≡ layout_off vessels movements s
-    unfolding layout_off
-    entries_elsewhere h = rw (← en, ← es, eq-eqb _ _ hn, ne_eqb _ _ h)
+-- two checks behind those of the rule and the vessels, of the reader's and of the writer's counts, where none applies
+pub counts_pass : (rule vessels p q : ℕ) (b d : Bool) → first (open_checks rule vessels) ≡ 0 → b ≡ false → d ≡ false
+    → 0 ≡ first (open_checks rule vessels ++ (p if b) ∷ (q if d) ∷ [])
+counts_pass rule vessels p q b d opens eb ed = passes (open_checks rule vessels) ((p if b) ∷ (q if d) ∷ []) tt 0 0 (sym opens) refl (rw (eb, ed))
 
-    module _ (size : ℕ) (el : size ≡ value_in 4 (drop length_at s)) (hs : start ≡ entries_start vessels) where
-      pub other_length : (size ≡ sheet_size vessels movements → ⊥) → true ≡ layout_off vessels movements s
-      unfolding layout_off
-      other_length h = rw (← en, ← es, ← el, eq-eqb _ _ hn, eq-eqb _ _ hs, ne_eqb _ _ h)
-
-      pub real_length : size ≡ sheet_size vessels movements → not (eqb (length s) (sheet_size vessels movements)) ≡ layout_off vessels movements s
-      unfolding layout_off
-      real_length h = rw (← en, ← es, ← el, eq-eqb _ _ hn, eq-eqb _ _ hs, eq-eqb _ _ h)
-
--- the ways out of two checks behind those of the rule and the vessels: of the reader's and of the writer's counts
-module _ (rule vessels n p q : ℕ) (b d : Bool) (en : n ≡ first (open_checks rule vessels)) where
-  pub out_open : (n ≡ 0 → ⊥) → n ≡ first (open_checks rule vessels ++ (p if b) ∷ (q if d) ∷ [])
-  out_open h = refuses (open_checks rule vessels) ((p if b) ∷ (q if d) ∷ []) tt n en h
-
-  module _ (z : n ≡ 0) (x : Bool) (ex : x ≡ b) where
-    pub out_one : x ≡ true → p ≡ first (open_checks rule vessels ++ (p if b) ∷ (q if d) ∷ [])
-    out_one t = passes (open_checks rule vessels) ((p if b) ∷ (q if d) ∷ []) tt n p en z (rw (← ex, t))
-
-    module _ (f : x ≡ false) (y : Bool) (ey : y ≡ d) where
-      pub out_two : y ≡ true → q ≡ first (open_checks rule vessels ++ (p if b) ∷ (q if d) ∷ [])
-      out_two t = passes (open_checks rule vessels) ((p if b) ∷ (q if d) ∷ []) tt n q en z (rw (← ex, f, ← ey, t))
-
-      pub out_none : y ≡ false → 0 ≡ first (open_checks rule vessels ++ (p if b) ∷ (q if d) ∷ [])
-      out_none t = passes (open_checks rule vessels) ((p if b) ∷ (q if d) ∷ []) tt n 0 en z (rw (← ex, f, ← ey, t))
-
--- the ways out of `header_number`
-pub out_no_sheet : (s : List ℕ) (a : Bool) → a ≡ no_sheet s → a ≡ true → 14 ≡ first (header_checks s)
-out_no_sheet s a e q = rw (← e, q)
-
+-- the number of a header that begins with the mark
 pub out_fields : (s : List ℕ) (a : Bool) (rule vessels movements n : ℕ) → a ≡ no_sheet s → a ≡ false
     → rule ≡ rule_of s → vessels ≡ vessels_of s → movements ≡ movements_of s
     → n ≡ first (field_checks rule vessels movements s) → n ≡ first (header_checks s)

@@ -1,6 +1,6 @@
 -- Laws of a sheet read whole: what a good header lays down, the number at each way out, and what an answer of number 0 is.
 -- Assumes nothing.
-use Rattle.std.proofs.Common.{ℕ, ◌-◌, ◌≤◌, arith, ◌≡◌, refl, sym, ◌∙◌, Bool, true, false, not, List, [], ◌∷◌, ◌++◌, eqb, length, take, drop}
+use Rattle.std.proofs.Common.{ℕ, ◌-◌, ◌≤◌, arith, ◌≡◌, refl, sym, ◌∙◌, Bool, false, not, List, [], ◌∷◌, ◌++◌, eqb, length, take, drop}
 use Rattle.refusal.specs.Numbers.{Check, ◌if◌, first}
 use Rattle.refusal.proofs.Numbers.{passed, neither, same_if, past, refuses, passes, passed_first, passed_second}
 use Rattle.fields.specs.Bytes.{value_in}
@@ -59,19 +59,16 @@ body_fits s n vessels movements e z ev em =
     let l = laid s n e z in
     (record { few_vessels = omega arith; few_movements = omega arith }, omega arith)
 
--- the ways out of `body_number`
+-- the ways out of `check_body`
 module _ (s : List ℕ) (vessels movements : ℕ) (off : Bool) (e : off ≡ names_off (names_in vessels (take (length s - header_size) (drop header_size s)))) where
   names_say : off ≡ names_off (names_in vessels (drop header_size s))
   names_say = rw rest_part at e
-
-  pub out_name : off ≡ true → 17 ≡ first (body_checks vessels movements s)
-  out_name q = rw (← names_say, q)
 
   pub out_entries : (n : ℕ) → off ≡ false → n ≡ first (entries_checks (entry_checks vessels) (entries_in movements (take (length s - (entries_start vessels)) (drop (entries_start vessels) s))))
       → n ≡ first (body_checks vessels movements s)
   out_entries n q en = rw (← names_say, q) (rw rest_part at en)
 
--- the ways out of `sheet_number`
+-- the ways out of `read_header`, by the numbers
 module _ (s : List ℕ) (n : ℕ) (e : n ≡ first (header_checks s)) where
   pub out_header : (n ≡ 0 → ⊥) → n ≡ read_number s
   unfolding read_number

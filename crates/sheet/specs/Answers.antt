@@ -1,6 +1,9 @@
 -- What reading a sheet, asking for a movement and asking for a name give. Definitions only. Assumes nothing.
-use Rattle.std.specs.Prelude.{List, [], ◌∷◌, ◌≡◌, ℕ, ◌+◌, ◌*◌, leb, take, drop}
+use Rattle.std.specs.Prelude.{List, [], ◌∷◌, ◌≡◌, ℕ, ◌+◌, ◌*◌, leb, take, drop, Result, Ok, Err}
 use Rattle.refusal.specs.Numbers.{Check, ◌if◌, first, if_zero}
+use Rattle.refusal.specs.declared.Refusal.{Refusal}
+use Rattle.refusal.specs.Refusals.{number_of}
+use Rattle.sheet.specs.declared.answer.Header.{Header}
 use Rattle.sheet.specs.declared.answer.Reading.{Reading}
 use Rattle.sheet.specs.declared.answer.Movement.{Movement}
 use Rattle.fields.specs.declared.entries.Entry.{Entry}
@@ -14,6 +17,15 @@ header_of s = record { number = 0; rule = rule_of s; vessels = vessels_of s; mov
 
 abbrev pub refused_reading : ℕ → Reading
 refused_reading n = record { number = n; rule = 0; vessels = 0; movements = 0 }
+
+-- The numbers of a header by themselves.
+abbrev pub header_numbers : List ℕ → Header
+header_numbers s = record { rule = rule_of s; vessels = vessels_of s; movements = movements_of s }
+
+-- What C is told of a header that was read, or of the refusal.
+abbrev pub reading_of : Result Header Refusal → Reading
+reading_of (Ok h) = record { number = 0; rule = h.rule; vessels = h.vessels; movements = h.movements }
+reading_of (Err why) = refused_reading (number_of why)
 
 -- "Reading a sheet yields rule, V and M".
 abbrev pub reading : List ℕ → Reading
@@ -37,6 +49,11 @@ movement_number s index = asked_number s (20 if leb (movements_of s) index)
 
 abbrev pub movement_asked : List ℕ → ℕ → Movement
 movement_asked s index = if_zero (movement_number s index) (movement_at s index) (movement_answer (movement_number s index) no_entry)
+
+-- What C is told of a movement that was found, or of the refusal.
+abbrev pub movement_of : Result Movement Refusal → Movement
+movement_of (Ok m) = m
+movement_of (Err why) = movement_answer (number_of why) no_entry
 
 -- "5 after the sheet's own"
 abbrev pub name_number : List ℕ → ℕ → ℕ

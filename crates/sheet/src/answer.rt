@@ -1,4 +1,14 @@
 // What reading a sheet yields.
+
+// The numbers of a header.
+#[derive(Clone, Copy)]
+pub struct Header {
+    pub rule: u32,
+    pub vessels: u32,
+    pub movements: u32,
+}
+
+// What reading a sheet yields in C, where a number tells a refusal: `Result` has no layout there.
 #[repr(C)]
 #[derive(Clone, Copy)]
 pub struct Reading {
@@ -8,7 +18,7 @@ pub struct Reading {
     pub movements: u32,
 }
 
-// What asking for a movement yields.
+// What asking for a movement yields in C, likewise.
 #[repr(C)]
 #[derive(Clone, Copy)]
 pub struct Movement {

@@ -3,48 +3,38 @@
 #![tactic(auto)]
 
 ghost use Rattle.std.specs.Prelude.{◌≡◌, ◌<◌, ◌≤◌, length};
-ghost use Rattle.fields.specs.Layout.{header_size};
+ghost use Rattle.refusal.specs.Refusals.{outcome_number};
 ghost use Rattle.sheet.specs.Sheet.{movements_of, read_number};
-ghost use Rattle.sheet.specs.Answers.{header_of, reading, movement_at, movement_asked, name_number, NamePart};
+ghost use Rattle.sheet.specs.Answers.{reading, movement_at, movement_asked, movement_of, name_number, NamePart};
 
 use answer::{Movement, Reading};
-use fields::bytes::{read16, read32};
-use fields::layout::{ENTRY_SIZE, HEADER_SIZE, MOVEMENTS_AT, NAME_SIZE, RULE_AT, VESSELS_AT};
+use fields::bytes::read16;
+use fields::layout::{NAME_SIZE, VESSELS_AT, name_start, sheet_size};
+pub use reader::read_header;
+use refusal::Refusal;
 
 pub mod answer; // answer.rt: what reading a sheet and asking for a movement yield
 mod header; // header.rt: the header, and what it must be
 mod reader; // reader.rt: all checks of a sheet, in order
 
-// The numbers of a header.
-fn header_read(sheet: &[u8]) -> Reading
-    requires { header_size ≤ length sheet.now }
-    ensures { result ≡ header_of sheet.now }
-{
-    let rule = read16(sheet, RULE_AT);
-    let vessels = read16(sheet, VESSELS_AT);
-    let movements = read32(sheet, MOVEMENTS_AT);
-    Reading {
-        number: 0,
-        rule: rule,
-        vessels: vessels,
-        movements: movements,
-    }
-}
-
 // Reads a sheet: its rule, count of vessels and count of movements.
 pub fn read(sheet: &[u8]) -> Reading
     ensures { result ≡ reading sheet.now }
 {
-    let number = reader::sheet_number(sheet);
-    if number != 0 {
-        return Reading {
-            number: number,
+    match read_header(sheet) {
+        Ok(header) => Reading {
+            number: 0,
+            rule: header.rule,
+            vessels: header.vessels,
+            movements: header.movements,
+        },
+        Err(why) => Reading {
+            number: u32::from(why),
             rule: 0,
             vessels: 0,
             movements: 0,
-        };
+        },
     }
-    header_read(sheet)
 }
 
 // The movement at an index of a sheet that is known to read well: the sheet is not read again.
@@ -52,8 +42,7 @@ pub fn movement_known(sheet: &[u8], index: u32) -> Movement
     requires { (read_number sheet.now ≡ 0) × (index < movements_of sheet.now) }
     ensures { result ≡ movement_at sheet.now index }
 {
-    let vessels = read16(sheet, VESSELS_AT) as usize;
-    let at = HEADER_SIZE + NAME_SIZE * vessels + ENTRY_SIZE * (index as usize);
+    let at = sheet_size(read16(sheet, VESSELS_AT), index);
     let e = fields::entries::read_entry(sheet, at);
     Movement {
         number: 0,
@@ -65,57 +54,62 @@ pub fn movement_known(sheet: &[u8], index: u32) -> Movement
     }
 }
 
-fn movement_refused(number: u32) -> Movement
-    ensures { result ≡ record { number = number; source = 0; destination = 0; minute = 0; weight = 0; age = 0 } }
+// The movement at an index, or why there is none.
+fn find_movement(sheet: &[u8], index: u32) -> Result<Movement, Refusal>
+    ensures { movement_of result ≡ movement_asked sheet.now index }
 {
-    Movement {
-        number: number,
-        source: 0,
-        destination: 0,
-        minute: 0,
-        weight: 0,
-        age: 0,
+    let header = read_header(sheet)?;
+    if index >= header.movements {
+        return Err(Refusal::PastEnd);
     }
+    Ok(movement_known(sheet, index))
 }
 
 // The movement at an index.
 pub fn movement(sheet: &[u8], index: u32) -> Movement
     ensures { result ≡ movement_asked sheet.now index }
 {
-    let r = read(sheet);
-    if r.number != 0 {
-        return movement_refused(r.number);
+    match find_movement(sheet, index) {
+        Ok(movement) => movement,
+        Err(why) => Movement {
+            number: u32::from(why),
+            source: 0,
+            destination: 0,
+            minute: 0,
+            weight: 0,
+            age: 0,
+        },
     }
-    if index >= r.movements {
-        return movement_refused(refusal::PAST_END);
+}
+
+// The first check that asking for a vessel's name fails.
+fn check_vessel(sheet: &[u8], vessel: u32) -> Result<(), Refusal>
+    ensures { outcome_number result ≡ name_number sheet.now vessel }
+{
+    let header = read_header(sheet)?;
+    if vessel >= header.vessels {
+        return Err(Refusal::NoVessel);
     }
-    movement_known(sheet, index)
+    Ok(())
 }
 
 // The number of asking for a vessel's name.
 pub fn name_number(sheet: &[u8], vessel: u32) -> u32
     ensures { result ≡ name_number sheet.now vessel }
 {
-    let r = read(sheet);
-    if r.number != 0 {
-        return r.number;
-    }
-    if vessel >= r.vessels {
-        return refusal::NO_VESSEL;
-    }
-    0
+    refusal::number(check_vessel(sheet, vessel))
 }
 
 // A vessel's name: that part of the sheet without its zeros, and on any refusal the empty part at the sheet's start.
 pub fn name<'a>(sheet: &'a [u8], vessel: u32) -> &'a [u8]
     ensures { NamePart sheet.now vessel sheet.entry.ref_ptr result.now result.ref_ptr }
 {
-    if name_number(sheet, vessel) != 0 {
-        return &sheet[0..0];
+    match check_vessel(sheet, vessel) {
+        Ok(()) => {
+            let at = name_start(vessel);
+            let count = names::letter_count(&sheet[at..at + NAME_SIZE]);
+            &sheet[at..at + count]
+        }
+        Err(_) => &sheet[0..0],
     }
-    let at = HEADER_SIZE + NAME_SIZE * (vessel as usize);
-    let end = at + NAME_SIZE;
-    let count = names::letter_count(&sheet[at..end]);
-    let stop = at + count;
-    &sheet[at..stop]
 }

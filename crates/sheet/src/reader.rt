@@ -1,34 +1,34 @@
 // All checks of a sheet, in order.
 ghost use Rattle.std.specs.Prelude.{◌≡◌, length};
 ghost use Rattle.refusal.specs.Numbers.{first};
+ghost use Rattle.refusal.specs.Refusals.{outcome_number};
 ghost use Rattle.fields.specs.Layout.{sheet_size, Within};
-ghost use Rattle.sheet.specs.Sheet.{body_checks, read_number};
+ghost use Rattle.sheet.specs.Sheet.{body_checks};
+ghost use Rattle.sheet.specs.Answers.{reading, reading_of};
 
-use fields::bytes::{read16, read32};
-use fields::layout::{HEADER_SIZE, MOVEMENTS_AT, NAME_SIZE, VESSELS_AT};
+use crate::answer::Header;
+use crate::header::{check_header, header_numbers};
+use fields::layout::{HEADER_SIZE, name_start};
+use refusal::Refusal;
 
-// The first check that what lies behind the header fails, or 0.
-fn body_number(sheet: &[u8], vessels: u32, movements: u32) -> u32
+// The first check that what lies behind the header fails.
+fn check_body(sheet: &[u8], vessels: u32, movements: u32) -> Result<(), Refusal>
     requires { Within vessels movements × (length sheet.now ≡ sheet_size vessels movements) }
-    ensures { result ≡ first (body_checks vessels movements sheet.now) }
+    ensures { outcome_number result ≡ first (body_checks vessels movements sheet.now) }
 {
-    let v = vessels as usize;
-    let start = HEADER_SIZE + NAME_SIZE * v;
-    if names::names_off(&sheet[HEADER_SIZE..], v) {
-        return refusal::NAME;
+    if names::names_off(&sheet[HEADER_SIZE..], vessels as usize) {
+        return Err(Refusal::Name);
     }
-    fields::entries::read_number(&sheet[start..], movements as usize, vessels)
+    let start = name_start(vessels);
+    fields::entries::check_entries(&sheet[start..], movements as usize, vessels)
 }
 
-// The first check that a sheet fails, or 0.
-pub fn sheet_number(sheet: &[u8]) -> u32
-    ensures { result ≡ read_number sheet.now }
+// The numbers of a sheet's header, or the first check that the sheet fails.
+pub fn read_header(sheet: &[u8]) -> Result<Header, Refusal>
+    ensures { reading_of result ≡ reading sheet.now }
 {
-    let number = crate::header::header_number(sheet);
-    if number != 0 {
-        return number;
-    }
-    let vessels = read16(sheet, VESSELS_AT);
-    let movements = read32(sheet, MOVEMENTS_AT);
-    body_number(sheet, vessels, movements)
+    check_header(sheet)?;
+    let header = header_numbers(sheet);
+    check_body(sheet, header.vessels, header.movements)?;
+    Ok(header)
 }

@@ -1,9 +1,9 @@
 -- Laws of writing: what the checks tell once they are passed, and each way out. Assumes nothing.
 use mathlib.Core.List.{flat_map}
-use Rattle.std.proofs.Common.{ℕ, ◌+◌, ◌*◌, ◌%◌, ◌<◌, ◌≤◌, zero-add, arith, ◌≡◌, refl, sym, ◌∙◌, Bool, true, false, not, List, [], ◌∷◌, ◌++◌, ltb-false, lt-ltb, le-ltb, T, eqb, length, take, drop, length-append, take_at}
+use Rattle.std.proofs.Common.{ℕ, ◌+◌, ◌*◌, ◌%◌, ◌<◌, ◌≤◌, zero-add, arith, ◌≡◌, refl, sym, ◌∙◌, Bool, false, not, List, [], ◌∷◌, ◌++◌, ltb-false, lt-ltb, le-ltb, T, eqb, length, take, drop, length-append, take_at}
 use lib.Seq.{sets, sets-eq}
 use Rattle.refusal.specs.Numbers.{Check, ◌if◌, first}
-use Rattle.refusal.proofs.Numbers.{named, passed, neither, same_if, past, not_zero, refuses, passes, passed_first, passed_second}
+use Rattle.refusal.proofs.Numbers.{named, passed, neither, same_if, past, refuses, passes, passed_first, passed_second}
 use Rattle.fields.specs.declared.entries.Entry.{Entry}
 use Rattle.fields.specs.Layout.{name_size, most_movements, sheet_size, movements_off, Within}
 use Rattle.names.specs.Names.{names_in, names_off}
@@ -49,31 +49,28 @@ within g = record { few_vessels = g.opened.few_vessels; few_movements = g.moved 
 
 -- what the content's checks ask
 pub content_fits : (rule vessels n : ℕ) (names numbers : List ℕ) → n ≡ first (count_checks rule vessels names numbers) → n ≡ 0
-    → Within vessels (count_given numbers) × (length names ≡ name_size * vessels) × (given_size * count_given numbers ≤ length numbers)
+    → Within vessels (count_given numbers) × (length names ≡ name_size * vessels)
 content_fits rule vessels n names numbers e z =
     let g = counted rule vessels n names numbers e z in
-    (within g, g.named, omega arith)
+    (within g, g.named)
 
--- the ways out of `content_number`
-module _ (vessels movements room : ℕ) (names numbers : List ℕ) (off : Bool) (e : off ≡ names_off (names_in vessels names)) where
-  pub out_names : off ≡ true → 17 ≡ first (content_checks vessels movements names numbers room)
-  out_names q = rw (← e, q)
+-- the ways out of `check_content`
+module _ (vessels movements room : ℕ) (names numbers : List ℕ) (off : Bool) (e : off ≡ names_off (names_in vessels names)) (f : off ≡ false)
+    (n : ℕ) (en : n ≡ first (entries_checks (given_checks vessels) (entries_given movements numbers))) where
+  abbrev es : List Check
+  es = entries_checks (given_checks vessels) (entries_given movements numbers)
 
-  module _ (n : ℕ) (f : off ≡ false) (en : n ≡ first (entries_checks (given_checks vessels) (entries_given movements numbers))) where
-    abbrev es : List Check
-    es = entries_checks (given_checks vessels) (entries_given movements numbers)
+  ok : T (named es)
+  ok = named_movements vessels (entries_given movements numbers)
 
-    ok : T (named es)
-    ok = named_movements vessels (entries_given movements numbers)
+  pub out_movement : (n ≡ 0 → ⊥) → n ≡ first (content_checks vessels movements names numbers room)
+  out_movement h = rw (← e, f) (refuses es (room_check vessels movements room ∷ []) ok n en h)
 
-    pub out_movement : (n ≡ 0 → ⊥) → n ≡ first (content_checks vessels movements names numbers room)
-    out_movement h = rw (← e, f) (refuses es (room_check vessels movements room ∷ []) ok n en h)
+  pub out_room : n ≡ 0 → room < sheet_size vessels movements → 19 ≡ first (content_checks vessels movements names numbers room)
+  out_room z h = rw (← e, f) (passes es (room_check vessels movements room ∷ []) ok n 19 en z (rw (lt-ltb _ _ h)))
 
-    pub out_room : n ≡ 0 → room < sheet_size vessels movements → 19 ≡ first (content_checks vessels movements names numbers room)
-    out_room z h = rw (← e, f) (passes es (room_check vessels movements room ∷ []) ok n 19 en z (rw (lt-ltb _ _ h)))
-
-    pub out_all : n ≡ 0 → sheet_size vessels movements ≤ room → 0 ≡ first (content_checks vessels movements names numbers room)
-    out_all z h = rw (← e, f) (passes es (room_check vessels movements room ∷ []) ok n 0 en z (rw (le-ltb _ _ h)))
+  pub out_all : n ≡ 0 → sheet_size vessels movements ≤ room → 0 ≡ first (content_checks vessels movements names numbers room)
+  out_all z h = rw (← e, f) (passes es (room_check vessels movements room ∷ []) ok n 0 en z (rw (le-ltb _ _ h)))
 
 -- What names, movements and room that pass their checks are.
 pub record Content (vessels movements : ℕ) (names numbers : List ℕ) (most : ℕ) : Type 0 where
@@ -94,7 +91,7 @@ content vessels movements most names numbers e =
       room = ltb-false most (sheet_size vessels movements) (passed last tt (passed_second es last ok p.1)).0;
     }
 
--- the ways out of `write_number`
+-- the ways out of `check`
 module _ (rule vessels room : ℕ) (names numbers : List ℕ) (n : ℕ) (e : n ≡ first (count_checks rule vessels names numbers)) where
   pub out_counts : (n ≡ 0 → ⊥) → n ≡ write_number rule vessels names numbers room
   unfolding write_number
@@ -136,27 +133,23 @@ module _ (rule vessels room n : ℕ) (names numbers : List ℕ) (e : n ≡ write
       content vessels (count_given numbers) room names numbers
       (passed_second (count_checks rule vessels names numbers) (content_checks vessels (count_given numbers) names numbers room) tt zeros)
 
--- the ways out of `write`
-module _ (rule vessels n : ℕ) (names numbers out : List ℕ) (e : n ≡ write_number rule vessels names numbers (length out)) where
-  pub write_refused : (n ≡ 0 → ⊥) → out ≡ written rule vessels names numbers out
-  write_refused h = rw (← e) (not_zero n (sheet_of rule vessels names numbers ++ drop (sheet_size vessels (count_given numbers)) out) out h)
+-- what is given where the number of what is to be put into a slice is 0
+module _ (rule vessels n : ℕ) (names numbers out : List ℕ) (e : n ≡ write_number rule vessels names numbers (length out)) (z : n ≡ 0) where
+  pub put_fits : Within vessels (count_given numbers) × (length names ≡ name_size * vessels) × (sheet_size vessels (count_given numbers) ≤ length out)
+  put_fits =
+      let g = write_counted rule vessels (length out) n names numbers e z in
+      let k = write_content rule vessels (length out) n names numbers e z in
+      (within g, g.named, k.room)
 
-  module _ (z : n ≡ 0) where
-    pub put_fits : Within vessels (count_given numbers) × (length names ≡ name_size * vessels) × (sheet_size vessels (count_given numbers) ≤ length out)
-    put_fits =
-        let g = write_counted rule vessels (length out) n names numbers e z in
-        let k = write_content rule vessels (length out) n names numbers e z in
-        (within g, g.named, k.room)
+  pub write_done : (l : List ℕ) → l ≡ sets out 0 (sheet_of rule vessels names numbers) → l ≡ written rule vessels names numbers out
+  write_done l el =
+      let size = length_sheet rule vessels names numbers put_fits.1 in
+      let room : 0 + length (sheet_of rule vessels names numbers) ≤ length out = omega (arith, put_fits.2) in
+      rw (← e, z) (el ∙ sets-eq (sheet_of rule vessels names numbers) out 0 room ∙ rw (zero-add, size))
 
-    pub write_done : (l : List ℕ) → l ≡ sets out 0 (sheet_of rule vessels names numbers) → l ≡ written rule vessels names numbers out
-    write_done l el =
-        let size = length_sheet rule vessels names numbers put_fits.1 in
-        let room : 0 + length (sheet_of rule vessels names numbers) ≤ length out = omega (arith, put_fits.2) in
-        rw (← e, z) (el ∙ sets-eq (sheet_of rule vessels names numbers) out 0 room ∙ rw (zero-add, size))
-
-    -- the sheet lies at the start of what is left
-    pub write_starts : take (sheet_size vessels (count_given numbers)) (written rule vessels names numbers out) ≡ sheet_of rule vessels names numbers
-    write_starts =
-        rw (← e, z)
-        (take_at (sheet_of rule vessels names numbers) (drop (sheet_size vessels (count_given numbers)) out) (sheet_size vessels (count_given numbers))
-        (length_sheet rule vessels names numbers put_fits.1))
+  -- the sheet lies at the start of what is left
+  pub write_starts : take (sheet_size vessels (count_given numbers)) (written rule vessels names numbers out) ≡ sheet_of rule vessels names numbers
+  write_starts =
+      rw (← e, z)
+      (take_at (sheet_of rule vessels names numbers) (drop (sheet_size vessels (count_given numbers)) out) (sheet_size vessels (count_given numbers))
+      (length_sheet rule vessels names numbers put_fits.1))

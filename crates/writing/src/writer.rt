@@ -2,6 +2,7 @@
 ghost use Rattle.std.specs.Prelude.{◌≡◌, ◌≤◌, ◌+◌, ◌*◌, length};
 ghost use Rattle.std.proofs.lemmas.List.Edits.{sets};
 ghost use Rattle.refusal.specs.Numbers.{first};
+ghost use Rattle.refusal.specs.Refusals.{outcome_number};
 ghost use Rattle.book.specs.Head.{most_vessels};
 ghost use Rattle.fields.specs.Movements.{entry_size, given_size, entry_bytes, entries_given, entries_bytes};
 ghost use Rattle.fields.specs.Layout.{name_size, header_size, rule_at, names_at, sheet_size, Within};
@@ -12,95 +13,120 @@ use fields::bytes::{put_bytes, put_number};
 use fields::entries::{Entry, given};
 use fields::layout::{
     ENTRIES_AT, ENTRY_SIZE, GIVEN_SIZE, HEADER_SIZE, LENGTH_AT, MOVEMENTS_AT, NAME_SIZE, NAMES_AT,
-    RULE_AT, VESSELS_AT,
+    RULE_AT, VESSELS_AT, name_start, sheet_size,
 };
+use refusal::Refusal;
+use sheet::answer::Header;
 
-// Whether the name bytes are not 8 for each vessel, or the numbers not 5 for each movement.
-fn given_off(vessels: u32, names: &[u8], numbers: &[u32]) -> bool
-    requires { vessels ≤ most_vessels }
-    ensures { result ≡ given_off vessels names.now numbers.now }
-{
-    if names.len() != NAME_SIZE * (vessels as usize) {
-        return true;
-    }
-    numbers.len() % GIVEN_SIZE != 0
+// What a sheet is to be written from.
+#[derive(Clone, Copy)]
+pub struct Draft<'a> {
+    pub rule: u32,
+    pub vessels: u32,
+    pub names: &'a [u8],
+    pub numbers: &'a [u32],
 }
 
-// The first check that the rule and the counts fail, or 0.
-fn count_number(rule: u32, vessels: u32, names: &[u8], numbers: &[u32]) -> u32
-    ensures { result ≡ first (count_checks rule vessels names.now numbers.now) }
-{
-    let open = ledger::opening::open_number(rule, vessels);
-    if open != 0 {
-        return open;
+impl Draft<'_> {
+    // How many movements the numbers hold.
+    fn movements(&self) -> usize
+        ensures { result ≡ count_given self.now.numbers.now }
+    {
+        self.numbers.len() / GIVEN_SIZE
     }
-    if given_off(vessels, names, numbers) {
-        return refusal::LAYOUT;
+
+    // Whether the name bytes are not 8 for each vessel, or the numbers not 5 for each movement.
+    fn is_off(&self) -> bool
+        requires { self.now.vessels ≤ most_vessels }
+        ensures { result ≡ given_off self.now.vessels self.now.names.now self.now.numbers.now }
+    {
+        self.names.len() != NAME_SIZE * (self.vessels as usize)
+            || self.numbers.len() % GIVEN_SIZE != 0
     }
-    if fields::layout::movements_off(numbers.len() / GIVEN_SIZE) {
-        return refusal::MOVEMENTS;
+
+    // The first check that the rule and the counts fail.
+    fn check_counts(&self) -> Result<(), Refusal>
+        ensures { outcome_number result ≡ first (count_checks self.now.rule self.now.vessels self.now.names.now self.now.numbers.now) }
+    {
+        ledger::opening::check_opening(self.rule, self.vessels)?;
+        if self.is_off() {
+            return Err(Refusal::Layout);
+        }
+        if fields::layout::movements_off(self.movements()) {
+            return Err(Refusal::Movements);
+        }
+        Ok(())
     }
-    0
+
+    // The first check that the names, the movements and the room fail.
+    fn check_content(&self, room: usize) -> Result<(), Refusal>
+        requires { Within self.now.vessels (count_given self.now.numbers.now) × (length self.now.names.now ≡ name_size * self.now.vessels) }
+        ensures { outcome_number result ≡ first (content_checks self.now.vessels (count_given self.now.numbers.now) self.now.names.now self.now.numbers.now room) }
+    {
+        if names::names_off(self.names, self.vessels as usize) {
+            return Err(Refusal::Name);
+        }
+        let movements = self.movements();
+        fields::entries::check_all_given(self.numbers, movements, self.vessels)?;
+        if room < sheet_size(self.vessels, movements as u32) {
+            return Err(Refusal::OutputShort);
+        }
+        Ok(())
+    }
+
+    // The first check that what is to be written fails.
+    pub fn check(&self, room: usize) -> Result<(), Refusal>
+        ensures { outcome_number result ≡ write_number self.now.rule self.now.vessels self.now.names.now self.now.numbers.now room }
+    {
+        self.check_counts()?;
+        self.check_content(room)
+    }
+
+    // Puts the sheet at the start of `out`.
+    pub fn put(&self, out: &mut [u8])
+        requires { Within self.now.vessels (count_given self.now.numbers.now) × (length self.now.names.now ≡ name_size * self.now.vessels)
+            × (sheet_size self.now.vessels (count_given self.now.numbers.now) ≤ length out.old) }
+        ensures { out.new ≡ sets out.old 0 (sheet_of self.now.rule self.now.vessels self.now.names.now self.now.numbers.now) }
+    {
+        let count = self.movements();
+        let header = Header {
+            rule: self.rule,
+            vessels: self.vessels,
+            movements: count as u32,
+        };
+        put_header(out, header);
+        put_bytes(out, HEADER_SIZE, self.names);
+        put_entries(out, name_start(self.vessels), self.numbers, count);
+    }
 }
 
-// The first check that the names, the movements and the room fail, or 0.
-fn content_number(vessels: u32, movements: usize, names: &[u8], numbers: &[u32], room: usize) -> u32
-    requires { Within vessels movements × (length names.now ≡ name_size * vessels) × (given_size * movements ≤ length numbers.now) }
-    ensures { result ≡ first (content_checks vessels movements names.now numbers.now room) }
-{
-    let v = vessels as usize;
-    if names::names_off(names, v) {
-        return refusal::NAME;
-    }
-    let number = fields::entries::given_number(numbers, movements, vessels);
-    if number != 0 {
-        return number;
-    }
-    if room < HEADER_SIZE + NAME_SIZE * v + ENTRY_SIZE * movements {
-        return refusal::OUTPUT_SHORT;
-    }
-    0
-}
-
-// The first check that what is to be written fails, or 0.
-pub fn write_number(rule: u32, vessels: u32, names: &[u8], numbers: &[u32], room: usize) -> u32
-    ensures { result ≡ write_number rule vessels names.now numbers.now room }
-{
-    let number = count_number(rule, vessels, names, numbers);
-    if number != 0 {
-        return number;
-    }
-    content_number(vessels, numbers.len() / GIVEN_SIZE, names, numbers, room)
-}
-
-fn put_counts(out: &mut [u8], rule: u32, vessels: u32, movements: u32)
+fn put_counts(out: &mut [u8], header: Header)
     requires { header_size ≤ length out.old }
-    ensures { out.new ≡ sets out.old rule_at (count_bytes rule vessels movements) }
+    ensures { out.new ≡ sets out.old rule_at (count_bytes header.rule header.vessels header.movements) }
 {
-    put_number(out, RULE_AT, 2, rule);
-    put_number(out, VESSELS_AT, 2, vessels);
-    put_number(out, MOVEMENTS_AT, 4, movements);
+    put_number(out, RULE_AT, 2, header.rule);
+    put_number(out, VESSELS_AT, 2, header.vessels);
+    put_number(out, MOVEMENTS_AT, 4, header.movements);
 }
 
-fn put_layout(out: &mut [u8], vessels: u32, movements: u32)
-    requires { (header_size ≤ length out.old) × Within vessels movements }
-    ensures { out.new ≡ sets out.old names_at (layout_bytes vessels movements) }
+fn put_layout(out: &mut [u8], header: Header)
+    requires { (header_size ≤ length out.old) × Within header.vessels header.movements }
+    ensures { out.new ≡ sets out.old names_at (layout_bytes header.vessels header.movements) }
 {
-    let start = HEADER_SIZE + NAME_SIZE * (vessels as usize);
-    let size = start + ENTRY_SIZE * (movements as usize);
+    let start = name_start(header.vessels);
+    let size = sheet_size(header.vessels, header.movements);
     put_number(out, NAMES_AT, 4, HEADER_SIZE as u32);
     put_number(out, ENTRIES_AT, 4, start as u32);
     put_number(out, LENGTH_AT, 4, size as u32);
 }
 
-fn put_header(out: &mut [u8], rule: u32, vessels: u32, movements: u32)
-    requires { (header_size ≤ length out.old) × Within vessels movements }
-    ensures { out.new ≡ sets out.old 0 (header_bytes rule vessels movements) }
+fn put_header(out: &mut [u8], header: Header)
+    requires { (header_size ≤ length out.old) × Within header.vessels header.movements }
+    ensures { out.new ≡ sets out.old 0 (header_bytes header.rule header.vessels header.movements) }
 {
-    let letters = fields::layout::mark();
-    put_bytes(out, 0, &letters);
-    put_counts(out, rule, vessels, movements);
-    put_layout(out, vessels, movements);
+    put_bytes(out, 0, &fields::layout::mark());
+    put_counts(out, header);
+    put_layout(out, header);
 }
 
 // Puts a movement into the twelve bytes from `at` on.
@@ -120,27 +146,7 @@ fn put_entries(out: &mut [u8], at: usize, numbers: &[u32], count: usize)
     requires { (given_size * count ≤ length numbers.now) × (at + entry_size * count ≤ length out.old) }
     ensures { out.new ≡ sets out.old at (entries_bytes (entries_given count numbers.now)) }
 {
-    let mut i: usize = 0;
-    while i < count {
-        let e = given(numbers, GIVEN_SIZE * i);
-        put_entry(out, at + ENTRY_SIZE * i, e);
-        i += 1;
+    for i in 0..count {
+        put_entry(out, at + ENTRY_SIZE * i, given(numbers, GIVEN_SIZE * i));
     }
-}
-
-// Puts a sheet at the start of `out`.
-pub fn put_sheet(rule: u32, vessels: u32, names: &[u8], numbers: &[u32], out: &mut [u8])
-    requires { Within vessels (count_given numbers.now) × (length names.now ≡ name_size * vessels)
-        × (sheet_size vessels (count_given numbers.now) ≤ length out.old) }
-    ensures { out.new ≡ sets out.old 0 (sheet_of rule vessels names.now numbers.now) }
-{
-    let count = numbers.len() / GIVEN_SIZE;
-    put_header(out, rule, vessels, count as u32);
-    put_bytes(out, HEADER_SIZE, names);
-    put_entries(
-        out,
-        HEADER_SIZE + NAME_SIZE * (vessels as usize),
-        numbers,
-        count,
-    );
 }

@@ -7,7 +7,7 @@ pub returns-then-name_off : goal.returns-then-name_off
 returns-then-name_off c = search (rules, scan_stop)
 
 pub loop-i-preserved : goal.loop-i-preserved
-loop-i-preserved c = (search rules, search (rules, scan_turn))
+loop-i-preserved c = search (rules, scan_turn)
 
 pub returns : goal.returns
 returns c = search (rules, scan_end)

@@ -1,10 +1,7 @@
--- A name is off among those left where one is among all. The measure is the names left.
-use Rattle.std.proofs.Common.{◌-◌, ◌≤◌, ◌≡◌, drop}
+-- A name is off among those left where one is among all.
+use Rattle.std.proofs.Common.{◌≡◌, drop}
 use Rattle.names.specs.Names.{names_in, names_off}
 use Rattle.names.proofs.names_off.Given as goal
 
 abbrev pub invariant-loop-i : goal.invariant-loop-i
-invariant-loop-i l = (l.i ≤ l.vessels) × (names_off (drop l.i (names_in l.vessels l.names)) ≡ names_off (names_in l.vessels l.names))
-
-abbrev pub decreases-loop-i : goal.decreases-loop-i
-decreases-loop-i l = l.vessels - l.i
+invariant-loop-i l = names_off (drop l.i (names_in l.vessels l.names)) ≡ names_off (names_in l.vessels l.names)

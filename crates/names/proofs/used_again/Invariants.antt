@@ -1,10 +1,7 @@
--- The name is among those left where it is among those behind it. The measure is the names left.
-use Rattle.std.proofs.Common.{◌-◌, ◌≤◌, ◌≡◌, drop}
+-- The name is among those left where it is among those behind it.
+use Rattle.std.proofs.Common.{◌≡◌, drop}
 use Rattle.names.specs.Names.{names_in, name_at, names_behind, used_in}
 use Rattle.names.proofs.used_again.Given as goal
 
 abbrev pub invariant-loop-j : goal.invariant-loop-j
-invariant-loop-j l = (l.j ≤ l.vessels) × (used_in (name_at l.vessels l.names l.i) (drop l.j (names_in l.vessels l.names)) ≡ used_in (name_at l.vessels l.names l.i) (names_behind l.vessels l.names l.i))
-
-abbrev pub decreases-loop-j : goal.decreases-loop-j
-decreases-loop-j l = l.vessels - l.j
+invariant-loop-j l = used_in (name_at l.vessels l.names l.i) (drop l.j (names_in l.vessels l.names)) ≡ used_in (name_at l.vessels l.names l.i) (names_behind l.vessels l.names l.i)

@@ -1,5 +1,5 @@
--- The numbers left, put where they belong, make of the slice what all of them make of it at the front. The measure is the movements left.
-use Rattle.std.proofs.Common.{◌*◌, ◌-◌, ◌≤◌, ◌≡◌, length, drop}
+-- The numbers left, put where they belong, make of the slice what all of them make of it at the front.
+use Rattle.std.proofs.Common.{◌*◌, ◌≡◌, length, drop}
 use lib.Seq.{sets}
 use Rattle.fields.specs.Movements.{given_size, numbers_in}
 use Rattle.sheet.specs.Sheet.{entries_read}
@@ -8,9 +8,5 @@ use Rattle.roundtrip.proofs.take_numbers.Given as goal
 
 abbrev pub invariant-loop-i : goal.invariant-loop-i
 invariant-loop-i l =
-    (l.i ≤ l.movements)
-    × (length l.numbers ≡ length l.initial.numbers)
+    (length l.numbers ≡ length l.initial.numbers)
     × (sets l.numbers (given_size * l.i) (numbers_in (drop l.i (entries_read l.sheet))) ≡ sets l.initial.numbers 0 (numbers_of l.sheet))
-
-abbrev pub decreases-loop-i : goal.decreases-loop-i
-decreases-loop-i l = l.movements - l.i

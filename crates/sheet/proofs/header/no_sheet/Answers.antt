@@ -9,5 +9,5 @@ pub returns-then-sheet-lt-HEADER_SIZE : goal.returns-then-sheet-lt-HEADER_SIZE
 unfolding no_sheet
 returns-then-sheet-lt-HEADER_SIZE c = search tests
 
-pub returns : goal.returns
-returns c = unmarked _ _ _ (search rules) c.mark-letters.ensures c.same.ensures.0 c.same.ensures.1
+pub returns-else-sheet-lt-HEADER_SIZE : goal.returns-else-sheet-lt-HEADER_SIZE
+returns-else-sheet-lt-HEADER_SIZE c = unmarked _ _ _ (search rules) c.mark.ensures c.starts_with.ensures.value

@@ -1,0 +1,14 @@
+-- `entries::check_all_given`: what its invariant leaves to show.
+use Rattle.std.proofs.Common.{rules}
+use Rattle.fields.proofs.EntryLaws.{named_given, check_turn, check_stop, check_end}
+use Rattle.fields.proofs.Outcomes.{outcomes}
+use Rattle.fields.proofs.entries.check_all_given.Goals as goal
+
+pub returns-in_err-check_given : goal.returns-in_err-check_given
+returns-in_err-check_given c = search (rules, named_given, check_stop, outcomes, c.in_err-check_given.ensures)
+
+pub loop-i-preserved : goal.loop-i-preserved
+loop-i-preserved c = search (rules, named_given, check_turn)
+
+pub returns : goal.returns
+returns c = search (rules, check_end)

@@ -1,0 +1,14 @@
+-- `entries::check_entries`: what its invariant leaves to show.
+use Rattle.std.proofs.Common.{rules}
+use Rattle.fields.proofs.EntryLaws.{named_entry, check_turn, check_stop, check_end}
+use Rattle.fields.proofs.Outcomes.{outcomes}
+use Rattle.fields.proofs.entries.check_entries.Goals as goal
+
+pub returns-in_err-check_entry : goal.returns-in_err-check_entry
+returns-in_err-check_entry c = search (rules, named_entry, check_stop, outcomes, c.in_err-check_entry.ensures)
+
+pub loop-i-preserved : goal.loop-i-preserved
+loop-i-preserved c = search (rules, named_entry, check_turn)
+
+pub returns : goal.returns
+returns c = search (rules, check_end)
