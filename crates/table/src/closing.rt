@@ -25,15 +25,12 @@ fn close_up(table: &mut [u32], n: usize) -> usize
 }
 
 // The same, where it is known how many have gone: if none has, there is nothing to do.
+#[tactic(auto, using(crate::proofs::ClosingUp::no_gaps))]
 fn close_gaps(table: &mut [u32], n: usize, gone: usize) -> usize
     requires { (n ≤ most_places) × (4 * n ≤ length table.old) × (length (stay (pieces_of n table.old)) + gone ≡ n) }
     ensures { Closes n table.old table.new result }
 {
-    if gone == 0 {
-        n
-    } else {
-        close_up(table, n)
-    }
+    if gone == 0 { n } else { close_up(table, n) }
 }
 
 // The first g lifted pieces are put at place j and on.

@@ -44,6 +44,7 @@ pub fn places(table: &[u32]) -> usize
 }
 
 // The piece at place i of n.
+#[tactic(auto, using(crate::proofs::Table::piece_law))]
 pub fn piece_at(table: &[u32], n: usize, i: usize) -> Piece
     requires { (i < n) × (4 * n ≤ length table.now) }
     ensures { result ≡ piece_in n table.now i }
@@ -58,6 +59,7 @@ pub fn piece_at(table: &[u32], n: usize, i: usize) -> Piece
 }
 
 // Piece p is put at place i of n.
+#[tactic(auto, using(crate::proofs::Table::put_law))]
 pub fn put_piece(table: &mut [u32], n: usize, i: usize, p: Piece)
     requires { (i < n) × (4 * n ≤ length table.old) }
     ensures { table.new ≡ put_in n i p table.old }
@@ -70,6 +72,7 @@ pub fn put_piece(table: &mut [u32], n: usize, i: usize, p: Piece)
 }
 
 // The piece at a place, or the piece of zeros where there is none.
+#[tactic(auto, using(crate::proofs::Table::no_piece_there))]
 pub fn piece_or_default(table: &[u32], n: usize, i: usize) -> Piece
     requires { 4 * n ≤ length table.now }
     ensures { result ≡ piece_in n table.now i }
@@ -82,6 +85,7 @@ pub fn piece_or_default(table: &[u32], n: usize, i: usize) -> Piece
 }
 
 // Piece p is put at a place, if it is there.
+#[tactic(auto, using(crate::proofs::Table::not_put))]
 pub fn put_if_there(table: &mut [u32], n: usize, i: usize, p: Piece)
     requires { 4 * n ≤ length table.old }
     ensures { table.new ≡ put_in n i p table.old }

@@ -1,5 +1,5 @@
 -- `closing::append` meets its contract. The invariant: the first c lifted pieces are pasted behind the first j of the table.
-use Rattle.std.proofs.Common.{◌≡◌, ◌-◌, ◌≤◌, length}
+use Rattle.std.proofs.Common.{◌≡◌}
 use Rattle.table.proofs.ClosingUp.{laid}
 use Rattle.table.proofs.closing.append.Given as goal
 

@@ -1,5 +1,5 @@
 -- `closing::close_up` meets its contract. The invariant: the first j pieces, and those that stay of the pieces from i on, are all that stay.
-use Rattle.std.proofs.Common.{◌≡◌, ◌++◌, ◌-◌, ◌*◌, ◌≤◌, length, drop}
+use Rattle.std.proofs.Common.{◌≡◌, ◌++◌, ◌*◌, ◌≤◌, drop}
 use Rattle.table.specs.Table.{pieces_of}
 use Rattle.table.specs.Closing.{stay}
 use Rattle.table.proofs.closing.close_up.Given as goal
