@@ -13,6 +13,7 @@ pub fn read_full<R: Read>(input: &mut R, room: &mut [u8]) -> io::Result<usize>
     ensures err { OnErr result (Kept (R.remaining input.old) (R.remaining input.new) room.new) }
 {
     let mut done = 0;
+    // A `while`: no `for` is plainer, since each read tells how far it went.
     while done < room.len() {
         let n = input.read(&mut room[done..])?;
         if n == 0 {

@@ -53,11 +53,9 @@ fn put_pieces(out: &mut [u8], at: usize, table: &[u32], n: usize) -> usize
     ensures { Put out.old at (piece_lines (pieces_of n table.now)) result out.new × (result ≤ at + piece_size * n) }
 {
     let mut next = at;
-    let mut i: usize = 0;
-    while i < n {
+    for i in 0..n {
         let p = table::piece_at(table, n, i);
         next = put_piece(out, next, p);
-        i += 1;
     }
     next
 }
@@ -78,9 +76,10 @@ fn put_last(out: &mut [u8], at: usize, index: u32, number: u32) -> usize
     ensures { Put out.old at (last_line index number) result out.new × (result ≤ at + last_size) }
 {
     if number == 0 {
-        return at;
+        at
+    } else {
+        put_stopped(out, at, index, number)
     }
-    put_stopped(out, at, index, number)
 }
 
 // The only line of a refused run.
@@ -110,11 +109,11 @@ pub fn put_listing(ran: Ran, table: &[u32], out: &mut [u8]) -> usize
     requires { (4 * ran.head.pieces ≤ length table.now) × (room_for ran.head.pieces ≤ length out.old) }
     ensures { Listed out.old (listing_of ran table.now) result out.new }
 {
-    let head = ran.head;
-    if head.vessels == 0 {
-        return put_refused(out, ran.number);
+    if ran.head.vessels == 0 {
+        put_refused(out, ran.number)
+    } else {
+        put_book(out, ran, table)
     }
-    put_book(out, ran, table)
 }
 
 // Runs a sheet on the table and lists the run.

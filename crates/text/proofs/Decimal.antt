@@ -1,9 +1,14 @@
--- DECIMAL IS THE NUMBER: read as digits it gives the number back, and it begins with no zero unless the number is 0. Assumes nothing.
-use Rattle.std.proofs.Common.{ℕ, zero, suc, ◌+◌, ◌-◌, ◌*◌, ◌/◌, ◌^◌, ◌<◌, ◌≤◌, arith, ◌≡◌, refl, ◌∙◌, List, [], ◌∷◌, ◌++◌, append_assoc, get_or}
+-- DECIMAL IS THE NUMBER: read as digits it gives the number back, it begins with no zero unless the number is 0, and it is what the library prints.
+-- Assumes nothing.
+use Rattle.std.proofs.Common.{ℕ, zero, suc, ◌+◌, ◌-◌, ◌*◌, ◌/◌, ◌%◌, ◌^◌, ◌<◌, ◌≤◌, arith, ◌≡◌, refl, ◌∙◌, List, [], ◌∷◌, ◌++◌, append_assoc, get_or, Bool, true, false, ltb, sym}
+use Rattle.std.specs.Fmt.{decimal as printed}
+use Rattle.std.proofs.lemmas.Fmt.{decimal_digit, decimal_step}
+use borrow.Author.Tests.{ltb-true, ltb-false}
 use native.Mathlib.Nat.{pow-succ'}
 use Rattle.refusal.specs.Numbers.{TOP}
+use Rattle.text.specs.Text.{Put}
 use Rattle.text.specs.Digits.{last_digit, digits, decimal}
-use Rattle.text.proofs.TextLaws.{no_digits, more_digits}
+use Rattle.text.proofs.TextLaws.{no_digits, more_digits, ten_digits}
 
 -- the number that digits say, behind those read before
 abbrev value_on : ℕ → List ℕ → ℕ
@@ -47,3 +52,31 @@ digits_lead (suc k) n rest some h =
 pub decimal_lead : (n : ℕ) → 0 < n → n ≤ TOP → 48 < get_or (decimal n) 0 0
 unfolding decimal
 decimal_lead n some h = led 9 n (n / 10) [] some refl (λ more. digits_lead 9 (n / 10) (last_digit n ∷ []) more (omega arith))
+
+-- the library's word, by the same digits
+printed_digits : (k n : ℕ) → 0 < n → n < 10 ^ k → n < 2 ^ 64 → digits k n ≡ printed n
+printed_digits zero n some h w = absurd (omega arith)
+printed_digits (suc k) n some h w = go (ltb n 10) refl (λ large. printed_digits k (n / 10) (omega arith) (tenth k n h) (omega arith))
+  where
+    go : (t : Bool) → ltb n 10 ≡ t → (10 ≤ n → digits k (n / 10) ≡ printed (n / 10)) → digits (suc k) n ≡ printed n
+    go true e i =
+        let small : n < 10 = ltb-true n 10 e in
+        let none : n / 10 ≡ 0 = omega arith in
+        let last : n % 10 ≡ n = omega arith in
+        more_digits k n some ∙ rw (none, no_digits, last) (sym (decimal_digit n small))
+    go false e i =
+        let large : 10 ≤ n = ltb-false n 10 e in
+        more_digits k n some ∙ rw (i large) (sym (decimal_step n large w))
+
+pub decimal_printed : (n : ℕ) → n ≤ TOP → decimal n ≡ printed n
+unfolding decimal digits
+decimal_printed zero h = sym (decimal_digit 0 (omega arith))
+decimal_printed (suc n) h = sym (more_digits 9 (suc n) (omega arith)) ∙ printed_digits 10 (suc n) (omega arith) (omega arith) (omega arith)
+
+-- a number's text that was put: no longer than it may be
+pub number_put : {l l' : List ℕ} {at r : ℕ} (n : ℕ) (text bytes : List ℕ) → n < 2 ^ 32 → text ≡ printed n → bytes ≡ text → Put l at bytes r l'
+    → Put l at (decimal n) r l' × (r ≤ at + 10)
+number_put {l} {l'} {at} {r} n text bytes h e d p =
+    let same : bytes ≡ decimal n = d ∙ e ∙ sym (decimal_printed n (omega arith)) in
+    let q = rw same at p in
+    (q, omega (arith, ten_digits n, q.next_is))

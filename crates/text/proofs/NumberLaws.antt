@@ -1,95 +1,135 @@
--- Laws of reading numbers: the loop's invariant, its three kinds of turn and its end; and the numbers that then lie at the start.
+-- Laws of reading numbers. A text is cut at what is no digit; its numbers are those that its parts make, but for the empty ones.
 -- Assumes nothing.
-use Rattle.std.proofs.Common.{ℕ, suc, ◌+◌, ◌<◌, ◌≤◌, min, add-zero, add-one, arith, ◌≡◌, refl, sym, ap, ◌∙◌, Bool, true, false, ◌&&◌, List, [], ◌∷◌, leb-true, leb, length, get_or, take, drop, set, drop_of_length-le, length-set, drop-cons, get_or-drop}
-use native.Mathlib.Nat.{zero-min, min-zero, suc-min-suc, min-eq_left, min-eq_right}
-use lib.ListN.{get_or-eq_default}
-use lib.Seq.{sets, take-nil}
-use Rattle.text.specs.Numbers.{zero_digit, nine_digit, digit_at, with_digit, numbers_from, numbers_in}
+use Rattle.std.proofs.Common.{ℕ, suc, ◌+◌, ◌<◌, ◌≤◌, min, add-zero, zero-add, arith, append-nil, eqb, eqb-true, ◌⊎◌, inl, inr, map, ◌≡◌, refl, sym, ap, ◌∙◌, Bool, true, false, not, cond, List, [], ◌∷◌, ◌++◌, length, take, set, length-append, fold}
+use Rattle.std.proofs.lemmas.List.{map-append, set_past}
+use Rattle.std.specs.Char.{is_ascii_digit}
+use Rattle.std.specs.List.{slice_split, onto_first}
+use native.Mathlib.Nat.{zero-min, min-zero, suc-min-suc}
+use lib.Seq.{sets, length-sets, take-nil}
+use borrow.Author.Tests.{eqb-false}
+use denote.Ref.{Bor}
+use Rattle.text.specs.Numbers.{digit, digit_at, with_digit, number, numbers_from, numbers_in}
 
--- behind the end there is no digit
-pub none_behind : (text : List ℕ) (i : ℕ) → length text ≤ i → false ≡ digit_at text i
-none_behind text i h = rw (get_or-eq_default text 0 h)
+-- the parts of a text, and the numbers that parts make
+abbrev pub parts : List ℕ → List (List ℕ)
+parts text = slice_split (λ b. not (is_ascii_digit b)) text
 
--- a digit is not below 0
-pub digit_low : (text : List ℕ) (i : ℕ) (t : Bool) → t ≡ digit_at text i → t ≡ true → zero_digit ≤ get_or text i 0
-digit_low text i t e q = leb-true zero_digit (get_or text i 0) (go (leb zero_digit (get_or text i 0)) (sym e ∙ q))
+unfoldable pub made : List (List ℕ) → List ℕ
+made [] = []
+made ([] ∷ ps) = made ps
+made ((d ∷ ds) ∷ ps) = number (d ∷ ds) ∷ made ps
+
+-- the same, where n is what the digits before them make
+unfoldable going : ℕ → List (List ℕ) → List ℕ
+going n [] = n ∷ []
+going n (p ∷ ps) = fold with_digit n p ∷ made ps
+
+going_first : (n b : ℕ) (ps : List (List ℕ)) → going n (onto_first b ps) ≡ going (with_digit n b) ps
+unfolding going made
+going_first n b [] = refl
+going_first n b (p ∷ ps) = refl
+
+made_first : (b : ℕ) (ps : List (List ℕ)) → made (onto_first b ps) ≡ going (with_digit 0 b) ps
+unfolding going made
+made_first b [] = refl
+made_first b (p ∷ ps) = refl
+
+numbers_parts : (text : List ℕ) → (numbers_from 0 text ≡ made (parts text)) × ((n : ℕ) → cond (digit_at text 0) (numbers_from n text) (n ∷ numbers_from 0 text) ≡ going n (parts text))
+unfolding numbers_from made going
+numbers_parts [] = (refl, λ n. refl)
+numbers_parts (b ∷ bs) = go (digit b) refl (numbers_parts bs)
   where
-    go : (u : Bool) → u && leb (get_or text i 0) nine_digit ≡ true → u ≡ true
-    go true _ = refl
-    go false v = v
+    go : (t : Bool) → digit b ≡ t → (numbers_from 0 bs ≡ made (parts bs)) × ((n : ℕ) → cond (digit_at bs 0) (numbers_from n bs) (n ∷ numbers_from 0 bs) ≡ going n (parts bs))
+        → (numbers_from 0 (b ∷ bs) ≡ made (parts (b ∷ bs))) × ((n : ℕ) → cond (digit b) (numbers_from n (b ∷ bs)) (n ∷ numbers_from 0 (b ∷ bs)) ≡ going n (parts (b ∷ bs)))
+    go true e (i, j) = (rw (e, made_first b (parts bs)) (j (with_digit 0 b)), λ n. rw (e, going_first n b (parts bs)) (j (with_digit n b)))
+    go false e (i, j) = (rw e i, λ n. rw e (ap (λ (l : List ℕ). n ∷ l) i))
 
--- `at` numbers are put and n is the next one so far: those left, put behind them, make of the slice what all of them make of it.
-pub record Reading (text out₀ out : List ℕ) (at n i : ℕ) : Type 0 where
-  pub within : i ≤ length text
-  pub kept : length out ≡ length out₀
-  pub passed : at ≤ i
-  pub put : sets out at (numbers_from n (drop i text)) ≡ sets out₀ 0 (numbers_in text)
-  pub counted : at + length (numbers_from n (drop i text)) ≡ length (numbers_in text)
+-- what the loop has done when it passed the parts ps: their numbers are put, as many as there is room for
+pub record Reading (ps : List (List ℕ)) (out₀ out : List ℕ) (count : ℕ) : Type 0 where
+  pub put : out ≡ sets out₀ 0 (made ps)
+  pub counted : count ≡ min (length (made ps)) (length out₀)
 
--- the numbers left at a byte that is no digit, at a digit that another follows, and at the last digit of a number
-module _ (text : List ℕ) (n i : ℕ) (h : i < length text) where
-  first_behind : digit_at (drop (suc i) text) 0 ≡ digit_at text (i + 1)
-  first_behind = rw (get_or-drop, add-zero, add-one)
+pub none_read : (out : List ℕ) → Reading [] out out 0
+unfolding made
+none_read out = record { put = refl; counted = sym (zero-min _) }
 
-  at_other : digit_at text i ≡ false → numbers_from n (drop i text) ≡ numbers_from n (drop (i + 1) text)
-  unfolding numbers_from
-  at_other e = rw (add-one, drop-cons text i 0 h, e)
+made_more : (ps : List (List ℕ)) (p : List ℕ) → made (ps ++ (p ∷ [])) ≡ made ps ++ made (p ∷ [])
+unfolding made
+made_more [] p = refl
+made_more ([] ∷ ps) p = made_more ps p
+made_more ((d ∷ ds) ∷ ps) p = ap (λ (l : List ℕ). number (d ∷ ds) ∷ l) (made_more ps p)
 
-  module _ (m : ℕ) (s : m ≡ with_digit n (get_or text i 0)) (e : digit_at text i ≡ true) where
-    at_digit : digit_at text (i + 1) ≡ true → numbers_from n (drop i text) ≡ numbers_from m (drop (i + 1) text)
-    unfolding numbers_from
-    at_digit f = rw (s, add-one, drop-cons text i 0 h, e, first_behind ∙ f)
+no_number : (p : List ℕ) → eqb (length p) 0 ≡ true → made (p ∷ []) ≡ []
+unfolding made
+no_number [] e = refl
+no_number (d ∷ ds) e = absurd (omega (arith, eqb-true _ _ e))
 
-    at_last : digit_at text (i + 1) ≡ false → numbers_from n (drop i text) ≡ m ∷ numbers_from 0 (drop (i + 1) text)
-    unfolding numbers_from
-    at_last f = rw (s, add-one, drop-cons text i 0 h, e, first_behind ∙ f)
+one_number : (p : List ℕ) → eqb (length p) 0 ≡ false → made (p ∷ []) ≡ number p ∷ []
+unfolding made
+one_number [] e = absurd (eqb-false 0 0 e refl)
+one_number (d ∷ ds) e = refl
 
-module _ (text out₀ out : List ℕ) (at n i : ℕ) (r : Reading text out₀ out at n i) (h : i < length text) where
-  -- a turn that puts nothing
-  on : (m : ℕ) → numbers_from n (drop i text) ≡ numbers_from m (drop (i + 1) text) → Reading text out₀ out at m (i + 1)
-  on m left =
-      record {
-        within = omega arith;
-        kept = r.kept;
-        passed = omega (arith, r.passed);
-        put = rw left at r.put;
-        counted = rw left at r.counted;
-      }
+sets_more : (vs l : List ℕ) (i n : ℕ) → sets l i (vs ++ (n ∷ [])) ≡ set (sets l i vs) (i + length vs) n
+sets_more [] l i n = rw add-zero
+sets_more (v ∷ vs) l i n = sets_more vs (set l i v) (suc i) n ∙ ap (λ (k : ℕ). set (sets (set l i v) (suc i) vs) k n) (omega arith)
 
-  pub other_turn : (t : Bool) → t ≡ digit_at text i → t ≡ false → Reading text out₀ out at n (i + 1)
-  other_turn t e q = on n (at_other text n i h (sym e ∙ q))
+-- the parts that a loop was given
+abbrev pub given : List (Bor (List ℕ)) → List (List ℕ)
+given ys = map (λ d. d.now) ys
 
-  module _
-      (t u : Bool) (m : ℕ) (e : t ≡ digit_at text i) (q : t ≡ true) (s : m ≡ with_digit n (get_or text i 0)) (f : u ≡ digit_at text (i + 1)) where
-    pub digit_turn : u ≡ true → Reading text out₀ out at m (i + 1)
-    digit_turn v = on m (at_digit text n i h m s (sym e ∙ q) (sym f ∙ v))
+-- a turn, where b tells whether the part is empty
+module _ (ys : List (Bor (List ℕ))) (x : Bor (List ℕ)) (out₀ out : List ℕ) (count : ℕ) (r : Reading (given ys) out₀ out count) (b : Bool) (d : b ≡ eqb (length x.now) 0) where
+  before : List ℕ
+  before = made (given ys)
 
-    pub last_turn : (after : List ℕ) → u ≡ false → after ≡ set out at m → Reading text out₀ after (at + 1) 0 (i + 1)
-    last_turn after v p =
-        let left = at_last text n i h m s (sym e ∙ q) (sym f ∙ v) in
-        record {
-          within = omega arith;
-          kept = ap length p ∙ length-set out at m ∙ r.kept;
-          passed = omega (arith, r.passed);
-          put = rw (p, add-one at) (rw left at r.put);
-          counted = omega (arith, ap length left, r.counted);
-        }
+  after : List ℕ
+  after = made (given (ys ++ (x ∷ [])))
 
--- the end, and the two ways out
-module _ (text out₀ out : List ℕ) (at n i : ℕ) (r : Reading text out₀ out at n i) (h : length text ≤ i) where
-  all_counted : at ≡ length (numbers_in text)
-  unfolding numbers_from
-  all_counted = sym (add-zero at) ∙ (rw (drop_of_length-le text h) at r.counted)
+  kept : length out ≡ length out₀
+  unfolding before
+  kept = ap length r.put ∙ length-sets out₀ 0 before
+
+  more : after ≡ before ++ made (x.now ∷ [])
+  unfolding before after
+  more = rw map-append (made_more (given ys) x.now)
+
+  module _ (e : b ≡ false) where
+    one : after ≡ before ++ (number x.now ∷ [])
+    one = more ∙ rw (one_number x.now (sym d ∙ e))
+
+    longer : length after ≡ suc (length before)
+    longer = ap length one ∙ simp length-append (omega arith)
+
+    next : sets out₀ 0 after ≡ set out (length before) (number x.now)
+    unfolding before
+    next = rw (one, sets_more, zero-add, ← r.put)
+
+    pub put_turn : (n : ℕ) → n ≡ number x.now → count < length out → Reading (given (ys ++ (x ∷ []))) out₀ (set out count n) (count + 1)
+    unfolding before after
+    put_turn n q h =
+        let k : count ≡ length before = omega (arith, r.counted, kept) in
+        record { put = rw (q, k) (sym next); counted = omega (arith, longer, kept, k) }
+
+  pub pass_turn : ((b ≡ false) × (length out ≤ count)) ⊎ (b ≡ true) → Reading (given (ys ++ (x ∷ []))) out₀ out count
+  unfolding before after
+  pass_turn (inl (e, h)) = record {
+    put = sym (next e ∙ set_past out (length before) (number x.now) (omega (arith, r.counted, kept)));
+    counted = omega (arith, longer e, r.counted, kept);
+  }
+  pass_turn (inr e) =
+      let same : after ≡ before = more ∙ rw (no_number x.now (sym d ∙ e)) (append-nil _) in
+      record { put = rw same r.put; counted = rw same r.counted }
+
+-- all parts of a text
+module _ (text out₀ out : List ℕ) (count : ℕ) (ps : List (List ℕ)) (e : ps ≡ parts text) (r : Reading ps out₀ out count) where
+  all_made : made ps ≡ numbers_in text
+  all_made = ap made e ∙ sym (numbers_parts text).0
 
   pub all_put : out ≡ sets out₀ 0 (numbers_in text)
-  unfolding numbers_from
-  all_put = rw (drop_of_length-le text h) at r.put
+  all_put = rw all_made at r.put
 
-  pub with_room : at < length out₀ → at ≡ min (length (numbers_in text)) (length out₀)
-  with_room b = all_counted ∙ sym (min-eq_left (omega (arith, all_counted)))
-
-  pub filled : length out₀ ≤ at → length out₀ ≡ min (length (numbers_in text)) (length out₀)
-  filled b = sym (min-eq_right (omega (arith, all_counted)))
+  pub all_counted : count ≡ min (length (numbers_in text)) (length out₀)
+  all_counted = rw all_made at r.counted
 
 pub sets_behind : (vs l : List ℕ) (x i : ℕ) → sets (x ∷ l) (suc i) vs ≡ x ∷ sets l i vs
 sets_behind [] l x i = refl

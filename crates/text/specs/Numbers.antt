@@ -1,5 +1,5 @@
 -- The decimal numbers of a text, between which anything stands that is no digit. Definitions only. Assumes nothing.
-use Rattle.std.specs.Prelude.{Bool, cond, ◌&&◌, List, [], ◌∷◌, ℕ, ◌+◌, ◌*◌, ◌-◌, min, leb, get_or}
+use Rattle.std.specs.Prelude.{Bool, cond, ◌&&◌, List, [], ◌∷◌, ℕ, ◌+◌, ◌*◌, ◌-◌, min, leb, get_or, fold}
 use Rattle.refusal.specs.Numbers.{TOP}
 
 -- the byte of 0
@@ -20,6 +20,10 @@ digit_at text i = digit (get_or text i 0)
 -- n with a digit behind it; what is too large for 32 bits is TOP
 abbrev pub with_digit : ℕ → ℕ → ℕ
 with_digit n b = min (10 * n + (b - zero_digit)) TOP
+
+-- the number that digits make
+abbrev pub number : List ℕ → ℕ
+number digits = fold with_digit 0 digits
 
 -- The numbers of a text, where n is what the digits before it make: a number ends where its digits do.
 unfoldable pub numbers_from : ℕ → List ℕ → List ℕ

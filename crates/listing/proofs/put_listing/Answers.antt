@@ -3,8 +3,8 @@ use Rattle.listing.proofs.LineLaws.{listed_refused, listed_book}
 use Rattle.std.proofs.Common.{rules}
 use Rattle.listing.proofs.put_listing.Goals as goal
 
-pub returns-then-head-eq0 : goal.returns-then-head-eq0
-returns-then-head-eq0 c = search (rules, listed_refused)
+pub returns-then-ran-eq0 : goal.returns-then-ran-eq0
+returns-then-ran-eq0 c = search (rules, listed_refused)
 
-pub returns : goal.returns
-returns c = search (rules, listed_book)
+pub returns-else-ran-eq0 : goal.returns-else-ran-eq0
+returns-else-ran-eq0 c = search (rules, listed_book)

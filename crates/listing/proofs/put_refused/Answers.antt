@@ -1,12 +1,9 @@
 -- A word and the newline, put one behind the other, are the line.
-use Rattle.std.proofs.Common.{arith}
+use Rattle.std.proofs.Common.{rules}
 use Rattle.text.proofs.TextLaws.{then}
 use Rattle.listing.specs.Listing.{refused_line}
 use Rattle.listing.proofs.put_refused.Goals as goal
 
 pub returns : goal.returns
 unfolding refused_line
-returns c = (
-  then c.put_word-behind.ensures.0 c.put_text.ensures,
-  omega (arith, c.put_word-behind.ensures.1, c.put_text.ensures.next_is),
-)
+returns c = search (rules, then)
