@@ -42,19 +42,6 @@ pub record Going (n : ℕ) (l : List ℕ) (h₀ : Head) (t₀ a₀ r₀ : List �
   pub answers_length : length a ≡ length a₀
   pub room_length : length r ≡ length r₀
 
-pub going_start : (n : ℕ) (l : List ℕ) (h : Head) (t a r : List ℕ) → Going n l h t a r h t a r 0
-going_start n l h t a r = record {
-  inside = omega arith;
-  numbers = rw sub-zero;
-  head = rw sub-zero;
-  table = rw sub-zero;
-  room = rw sub-zero;
-  behind = refl;
-  table_length = refl;
-  answers_length = refl;
-  room_length = refl;
-}
-
 module _ (n : ℕ) (l : List ℕ) (h₀ : Head) (t₀ a₀ r₀ : List ℕ) (h : Head) (t a r : List ℕ) (i : ℕ) (g : Going n l h₀ t₀ a₀ r₀ h t a r i) where
   abbrev all : Carried
   all = carried n l h₀ t₀ r₀

@@ -55,9 +55,6 @@ called_is l room = go (eqb (get_or l 0 0) 0) (eqb (get_or l 0 0) 4) (eqb (get_or
 pub record Scanned (n : ℕ) (l : List ℕ) (i : ℕ) : Type 0 where
   pub left : ages_off (n - i) (drop (call_size * i) l) ≡ ages_off n l
 
-pub scan_start : (n : ℕ) (l : List ℕ) → Scanned n l 0
-scan_start n l = record { left = rw sub-zero }
-
 module _ (n : ℕ) (l : List ℕ) (i : ℕ) (s : Scanned n l i) where
   pub scan_turn : i < n → (r : Result Call Refusal) → r ≡ call_read (rest (call_size * i) l) → (c : Call) → r ≡ Ok c → Scanned n l (i + 1)
   unfolding ages_off
