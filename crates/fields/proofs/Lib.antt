@@ -1,5 +1,4 @@
 -- Laws that belong to no one function.
-pub mod Outcomes
 pub mod LayoutLaws
 pub mod ByteLaws
 pub mod GroupLaws

@@ -13,7 +13,7 @@ use Rattle.refusal.proofs.Numbers.{not_zero}
 use Rattle.fields.specs.Movements.{given_size}
 use Rattle.fields.specs.Layout.{header_size, name_start, sheet_size, most_movements}
 use Rattle.fields.proofs.BackLaws.{Below}
-use Rattle.fields.proofs.Outcomes.{refused, passed_on}
+use Rattle.refusal.proofs.Refusals.{refused, passed_on}
 use Rattle.sheet.specs.declared.answer.Reading.{Reading}
 use Rattle.sheet.specs.Sheet.{rule_of, vessels_of, movements_of, read_number}
 use Rattle.sheet.specs.Answers.{reading, refused_reading}

@@ -1,31 +1,36 @@
 -- The run, by what is left: the book is known to add up at every movement, and going on from here ends as going on from the start does.
 -- Assumes nothing.
-use Rattle.std.proofs.Common.{◌≡◌, refl, sym, ap, ◌∙◌, List, ◌∷◌, ℕ, zero, suc, ◌+◌, ◌*◌, ◌≤◌, ◌<◌, add-one, arith, length, drop, drop_of_length-le, drop-drop, lt-ltb, le-ltb}
-use Rattle.refusal.specs.Numbers.{first, if_zero}
-use Rattle.refusal.proofs.Numbers.{not_zero}
-use Rattle.table.specs.Table.{most_places}
-use Rattle.moving.specs.Applied.{lifted_places}
+use Rattle.std.proofs.Common.{◌≡◌, refl, sym, ap, ◌∙◌, Bool, true, false, ltb, ltb-false, List, [], ◌∷◌, ℕ, zero, suc, ◌+◌, ◌*◌, ◌≤◌, ◌<◌, add-one, arith, length, drop, drop_of_length-le, drop-drop, lt-ltb, le-ltb}
+use Rattle.refusal.specs.Numbers.{◌if◌, first, if_zero}
+use Rattle.refusal.proofs.Numbers.{not_zero, first_zero}
 use Rattle.book.specs.declared.Head.{Head}
 use Rattle.book.specs.declared.Transfer.{Transfer}
 use Rattle.book.specs.declared.Transferred.{Transferred}
-use Rattle.book.specs.declared.Opened.{Opened}
 use Rattle.book.specs.Head.{empty_head, open_checks, opening}
 use Rattle.book.specs.Transfer.{transfer_of}
 use Rattle.book.specs.Calls.{post, even_of, meaning}
-use Rattle.book.specs.Memory.{Outcome, outcome, number_of, call_on}
+use Rattle.book.specs.Memory.{Outcome, outcome, call_on}
+use Rattle.book.specs.Memory as Memory
 use Rattle.book.proofs.Memory.{refused_memory}
 use Rattle.book.proofs.Known.{known_up}
-use Rattle.carrying.specs.Carrying.{Workable}
+use Rattle.carrying.specs.Carrying.{Audited}
 use Rattle.posting.specs.Posting.{Posts}
 use Rattle.book.proofs.After.{known_after, length_after, fresh_known}
 use Rattle.sheet.specs.declared.answer.Movement.{Movement}
 use Rattle.sheet.specs.declared.answer.Reading.{Reading}
 use Rattle.run.specs.declared.Ran.{Ran}
-use Rattle.sheet.specs.Answers.{header_of, refused_reading, reading, movement_at}
+use Rattle.sheet.specs.Answers.{header_of, header_numbers, refused_reading, reading, reading_of, movement_at}
 use Rattle.fields.specs.Movements.{entry_size}
 use Rattle.fields.specs.Layout.{entries_start}
 use Rattle.sheet.specs.Sheet.{rule_of, vessels_of, movements_of, read_number}
-use Rattle.run.specs.Run.{transfer_in, transfer_at, transfers_of, Running, Gives, ended, go_on, run_from, run_number, running, Runnable}
+use Rattle.std.specs.Prelude.{Result, Ok, Err}
+use Rattle.std.specs.Result.{IsErrAnd}
+use Rattle.refusal.specs.declared.Refusal.{Refusal}
+use Rattle.refusal.specs.declared.Refusal.TheVariants.{TableShort}
+use Rattle.refusal.specs.Refusals.{number_of}
+use Rattle.refusal.proofs.Refusals.{some_number}
+use Rattle.sheet.specs.declared.answer.Header.{Header}
+use Rattle.run.specs.Run.{not_run, Checked, transfer_in, transfer_at, transfers_of, Running, Gives, ended, go_on, run_from, run_number, running, Runnable}
 use Rattle.sheet.proofs.ReadLaws.{good}
 use Rattle.fields.proofs.GroupLaws.{length_groups, group_at, next_group}
 
@@ -42,25 +47,21 @@ next_transfer s i h =
 -- an accepted transfer is even as its answer says
 even_said : (h : Head) (t : List ℕ) (x : Transfer) → (call_on h t (post x)).number ≡ 0 → (call_on h t (post x)).even ≡ even_of (call_on h t (post x)).answer
 unfolding call_on
-even_said h t x e = go (number_of h t (post x)) e
+even_said h t x e = go (Memory.number_of h t (post x)) e
   where
     go : (n : ℕ) → (outcome h t (meaning (post x)) n).number ≡ 0 → (outcome h t (meaning (post x)) n).even ≡ even_of (outcome h t (meaning (post x)) n).answer
     go zero e = refl
     go (suc n) e = absurd (omega arith)
 
 -- Where a run stands before movement i: so many were even, the book is known, and going on ends as it should.
-pub record Going (s : List ℕ) (m : ℕ) (h₀ : Head) (t₀ k₀ p₀ l₀ : List ℕ) (h : Head) (t k p l : List ℕ) (even i : ℕ) : Type 0 where
-  pub inside : i ≤ m
+pub record Going (s : List ℕ) (m : ℕ) (h₀ : Head) (t₀ : List ℕ) (h : Head) (t : List ℕ) (even i : ℕ) : Type 0 where
   pub some_even : even ≤ i
-  pub work : Workable h t k p l
+  pub audited : Audited h t
   pub left : run_from i even h t (drop i (transfers_of s)) ≡ run_from 0 0 h₀ t₀ (transfers_of s)
   pub table_length : length t ≡ length t₀
-  pub keys_length : length k ≡ length k₀
-  pub spare_length : length p ≡ length p₀
-  pub lifted_length : length l ≡ length l₀
 
-module _ (s : List ℕ) (m : ℕ) (h₀ : Head) (t₀ k₀ p₀ l₀ : List ℕ) (h : Head) (t k p l : List ℕ) (even i : ℕ) (g : Going s m h₀ t₀ k₀ p₀ l₀ h t k p l even i)
-    (able : Runnable s m h₀ t₀ k₀ p₀ l₀) where
+module _ (s : List ℕ) (m : ℕ) (h₀ : Head) (t₀ : List ℕ) (h : Head) (t : List ℕ) (even i : ℕ) (g : Going s m h₀ t₀ h t even i)
+    (able : Runnable s m h₀ t₀) where
   abbrev all : Running
   all = run_from 0 0 h₀ t₀ (transfers_of s)
 
@@ -72,8 +73,8 @@ module _ (s : List ℕ) (m : ℕ) (h₀ : Head) (t₀ k₀ p₀ l₀ : List ℕ)
   here q = rw (next_transfer s i (rw able.count at q)) at g.left
 
   -- what the next movement asks
-  pub going_makes : i < m → (read_number s ≡ 0) × (i < movements_of s) × Workable h t k p l
-  going_makes q = (able.reads, rw able.count at q, g.work)
+  pub going_makes : i < m → (read_number s ≡ 0) × (i < movements_of s) × Audited h t
+  going_makes q = (able.reads, rw able.count at q, g.audited)
 
   module _ (made : Transferred) (t' : List ℕ) (q : i < m) (posts : Posts h (post (transfer_at s i)) t t' made) where
     same_number : made.number ≡ o.number
@@ -93,32 +94,22 @@ module _ (s : List ℕ) (m : ℕ) (h₀ : Head) (t₀ k₀ p₀ l₀ : List ℕ)
       pub going_counts : even + one ≤ m
       going_counts = omega (arith, g.some_even, eo.1)
 
-      pub going_next : (k' p' l' : List ℕ) → length k' ≡ length k → length p' ≡ length p → length l' ≡ length l
-          → Going s m h₀ t₀ k₀ p₀ l₀ made.head t' k' p' l' (even + one) (i + 1)
-      going_next k' p' l' lk lp ll =
-          let known = known_up h t g.work.audited.sized g.work.audited.book_adds_up in
+      pub going_next : Going s m h₀ t₀ made.head t' (even + one) (i + 1)
+      going_next =
+          let known = known_up h t g.audited.sized g.audited.book_adds_up in
           let u = known_after h t known (transfer_at s i) in
           let v = length_after h t known (transfer_at s i) in
           let n : o.number ≡ 0 = sym same_number ∙ z in
           let es : one ≡ o.even = eo.0 ∙ ap (λ (z : Transferred). if_zero (z.split + z.born) 1 0) posts.answer ∙ sym (even_said h t (transfer_at s i) n) in
           record {
-            inside = omega arith;
             some_even = omega (arith, g.some_even, eo.1);
-            work = record {
-              audited = record {
-                long = rw (posts.table, v) g.work.audited.long;
-                book_adds_up = rw (posts.answer, posts.table) u.adds;
-                sized = rw posts.answer u.sized;
-              };
-              memory = lk ∙ g.work.memory;
-              aside = rw lp g.work.aside;
-              above = rw ll g.work.above;
+            audited = record {
+              long = rw (posts.table, v) g.audited.long;
+              book_adds_up = rw (posts.answer, posts.table) u.adds;
+              sized = rw posts.answer u.sized;
             };
             left = rw (add-one, es, posts.answer, posts.table) (rw (n, add-one) at (here q));
             table_length = rw (posts.table, v) g.table_length;
-            keys_length = lk ∙ g.keys_length;
-            spare_length = lp ∙ g.spare_length;
-            lifted_length = ll ∙ g.lifted_length;
           }
 
   -- all are made
@@ -128,33 +119,13 @@ module _ (s : List ℕ) (m : ℕ) (h₀ : Head) (t₀ k₀ p₀ l₀ : List ℕ)
       let f : ended 0 i even h t ≡ all = rw (drop_of_length-le (transfers_of s) {i = i} (rw (length_groups, ← able.count) q)) at g.left in
       record { answer_is = ap (λ (r : Running). r.answer) f; table_is = ap (λ (r : Running). r.table) f }
 
-pub going_start : (s : List ℕ) (m : ℕ) (h : Head) (t k p l : List ℕ) → Runnable s m h t k p l → Going s m h t k p l h t k p l 0 0
-going_start s m h t k p l able = record {
-  inside = omega arith;
-  some_even = omega arith;
-  work = able.work;
-  left = refl;
-  table_length = refl;
-  keys_length = refl;
-  spare_length = refl;
-  lifted_length = refl;
-}
+pub going_start : (s : List ℕ) (m : ℕ) (h : Head) (t : List ℕ) → Runnable s m h t → Going s m h t h t 0 0
+going_start s m h t able = record { some_even = omega arith; audited = able.audited; left = refl; table_length = refl }
 
 -- a movement as it is read is the transfer that is made
 pub made_as : (h : Head) (t s : List ℕ) (i : ℕ) (m : Movement) (z : Transferred) (t' : List ℕ) → m ≡ movement_at s i
     → Posts h (post (transfer_of m.source m.destination m.minute m.weight m.age)) t t' z → Posts h (post (transfer_at s i)) t t' z
 made_as h t s i m z t' e p = rw e at p
-
--- whether it was even
-module _ (split born : ℕ) where
-  pub even_not_split : (split ≡ 0 → ⊥) → ◌≡◌ {A = ℕ} 0 (if_zero (split + born) 1 0)
-  even_not_split h = not_zero (split + born) 1 0 (λ e. h (omega arith))
-
-  pub even_not_born : (born ≡ 0 → ⊥) → ◌≡◌ {A = ℕ} 0 (if_zero (split + born) 1 0)
-  even_not_born h = not_zero (split + born) 1 0 (λ e. h (omega arith))
-
-  pub even_is : split ≡ 0 → born ≡ 0 → ◌≡◌ {A = ℕ} 1 (if_zero (split + born) 1 0)
-  even_is a b = let z : split + born ≡ 0 = omega arith in rw z
 
 -- an opening that is not refused gives the fresh head
 pub fresh_opened : (rule size : ℕ) → first (open_checks rule size) ≡ 0 → (opening rule size).head ≡ empty_head rule size
@@ -169,53 +140,76 @@ pub opened_well : (s : List ℕ) → read_number s ≡ 0 → (opening (rule_of s
 unfolding opening
 opened_well s e = rw (opens_well s e)
 
--- `run`, at its returns: r is what reading yields.
-module _ (s t : List ℕ) (r : Reading) (er : r ≡ reading s) where
-  number_read : read_number s ≡ r.number
-  number_read = sym (ap (λ (x : Reading). x.number) er ∙ go (read_number s))
+-- what reading tells
+module _ (s : List ℕ) where
+  read_zero : (h : Header) → reading_of (Ok h) ≡ reading s → (read_number s ≡ 0) × (h ≡ header_numbers s)
+  read_zero h e = go (read_number s) e
+    where
+      go : (n : ℕ) → reading_of (Ok h) ≡ if_zero n (header_of s) (refused_reading n) → (n ≡ 0) × (h ≡ header_numbers s)
+      go zero q = (refl, ap (λ (r : Reading). record { rule = r.rule; vessels = r.vessels; movements = r.movements }) q)
+      go (suc n) q = absurd (omega (arith, ap (λ (r : Reading). r.number) q))
+
+  read_refused : (why : Refusal) → refused_reading (number_of why) ≡ reading s → number_of why ≡ read_number s
+  read_refused why e = ap (λ (r : Reading). r.number) e ∙ go (read_number s)
     where
       go : (n : ℕ) → (if_zero n (header_of s) (refused_reading n)).number ≡ n
       go zero = refl
       go (suc n) = refl
 
-  not_run : (n : ℕ) (z : Ran) → run_number s t ≡ n → (n ≡ 0 → ⊥) → z ≡ record { number = n; index = 0; even = 0; head = empty_head 0 0 } → Gives (running s t) t z
-  unfolding running
-  not_run n z e nz ez = rw e (go n nz ez)
-    where
-      go : (n : ℕ) → (n ≡ 0 → ⊥) → z ≡ record { number = n; index = 0; even = 0; head = empty_head 0 0 }
-          → Gives (if_zero n (run_from 0 0 (opening (rule_of s) (vessels_of s)).head t (transfers_of s)) (ended n 0 0 (empty_head 0 0) t)) t z
-      go zero nz ez = absurd (nz refl)
-      go (suc n) nz ez = record { answer_is = ez; table_is = refl }
-
-  pub run_refused : (z : Ran) → (r.number ≡ 0 → ⊥) → z ≡ record { number = r.number; index = 0; even = 0; head = empty_head 0 0 } → Gives (running s t) t z
+-- the ways out of `check`
+module _ (s t : List ℕ) where
+  pub unread : (r : Result Header Refusal) (why : Refusal) → IsErrAnd r (λ (other : Refusal). other ≡ why) → refused_reading (number_of why) ≡ reading s → Checked s t r
   unfolding run_number
-  run_refused z nz = not_run r.number z (rw number_read (sym (not_zero r.number _ r.number nz))) nz
+  unread (Ok h) why is e = absurd is
+  unread (Err other) why is e =
+      let n : number_of other ≡ read_number s = ap number_of is ∙ read_refused s why e in
+      rw (← n) (not_zero (number_of other) _ (number_of other) (some_number other))
 
-  module _ (zr : r.number ≡ 0) where
-    read_well : read_number s ≡ 0
-    read_well = number_read ∙ zr
-
-    pub run_short : (z : Ran) → length t < 4 → z ≡ record { number = 1; index = 0; even = 0; head = empty_head 0 0 } → Gives (running s t) t z
+  module _ (h : Header) (e : reading_of (Ok h) ≡ reading s) where
+    pub no_place : length t < 4 → Checked s t (Err TableShort)
     unfolding run_number
-    run_short z h = not_run 1 z (rw (read_well, lt-ltb (length t) 4 h)) (λ e. omega arith)
+    no_place short = rw ((read_zero s h e).0, lt-ltb (length t) 4 short)
 
-    header : r ≡ header_of s
-    header = er ∙ rw read_well
+    pub can_begin : 4 ≤ length t → Checked s t (Ok h)
+    unfolding run_number
+    can_begin long = let z = read_zero s h e in (rw (z.0, le-ltb (length t) 4 long), z.1)
 
-    module _ (long : 4 ≤ length t) (o : Opened) (eo : o ≡ opening r.rule r.vessels) where
-      pub run_ready : (keys spare lifted : List ℕ) → length keys ≡ most_places → length spare ≡ most_places → length lifted ≡ 4 * lifted_places
-          → Runnable s r.movements o.head t keys spare lifted
-      run_ready keys spare lifted a b c =
-          let opens = opens_well s read_well in
-          let k = fresh_known (rule_of s) (vessels_of s) t opens in
-          let fresh : o.head ≡ empty_head (rule_of s) (vessels_of s) = rw (eo, header) (fresh_opened _ _ opens) in
-          record {
-            reads = read_well;
-            count = ap (λ (x : Reading). x.movements) header;
-            few = rw header (good s 0 (sym read_well) refl).movements;
-            work = rw fresh (record { audited = record { long = long; book_adds_up = k.adds; sized = k.sized }; memory = a; aside = omega arith; above = omega arith });
-          }
+-- the ways out of `run`
+module _ (s t : List ℕ) where
+  pub run_refused : (why : Refusal) → number_of why ≡ run_number s t → Gives (running s t) t (not_run (number_of why))
+  unfolding running
+  run_refused why e = rw (← e) (go (number_of why) (some_number why))
+    where
+      go : (n : ℕ) → (n ≡ 0 → ⊥) → Gives (if_zero n (run_from 0 0 (opening (rule_of s) (vessels_of s)).head t (transfers_of s)) (ended n 0 0 (empty_head 0 0) t)) t (not_run n)
+      go zero nz = absurd (nz refl)
+      go (suc n) nz = record { answer_is = refl; table_is = refl }
 
-      pub run_whole : (z : Ran) (t' : List ℕ) → Gives (run_from 0 0 o.head t (transfers_of s)) t' z → Gives (running s t) t' z
-      unfolding running run_number
-      run_whole z t' p = rw (read_well, le-ltb (length t) 4 long) (rw (eo, header) at p)
+  module _ (h : Header) (e : (run_number s t ≡ 0) × (h ≡ header_numbers s)) (fresh : Head) (ef : fresh ≡ empty_head h.rule h.vessels) where
+    reads : read_number s ≡ 0
+    unfolding run_number
+    reads = first_zero (read_number s) _ e.0
+
+    long : 4 ≤ length t
+    unfolding run_number
+    long = go (ltb (length t) 4) refl (rw reads at e.0)
+      where
+        go : (b : Bool) → ltb (length t) 4 ≡ b → first (1 if b ∷ []) ≡ 0 → 4 ≤ length t
+        go true q z = absurd (omega (arith, z))
+        go false q z = ltb-false (length t) 4 q
+
+    is_fresh : fresh ≡ empty_head (rule_of s) (vessels_of s)
+    is_fresh = ef ∙ rw e.1
+
+    pub run_ready : Runnable s h.movements fresh t
+    run_ready =
+        let k = fresh_known (rule_of s) (vessels_of s) t (opens_well s reads) in
+        record {
+          reads = reads;
+          count = rw e.1;
+          few = rw e.1 (good s 0 (sym reads) refl).movements;
+          audited = rw is_fresh (record { long = long; book_adds_up = k.adds; sized = k.sized });
+        }
+
+    pub run_whole : (z : Ran) (t' : List ℕ) → Gives (run_from 0 0 fresh t (transfers_of s)) t' z → Gives (running s t) t' z
+    unfolding running
+    run_whole z t' p = rw (e.0, fresh_opened (rule_of s) (vessels_of s) (opens_well s reads)) (rw is_fresh at p)

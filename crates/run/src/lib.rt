@@ -3,19 +3,22 @@
 
 ghost use Rattle.std.specs.Prelude.{◌≡◌, ◌<◌, ◌≤◌, ◌+◌};
 ghost use Rattle.refusal.specs.Numbers.{if_zero};
-ghost use Rattle.book.specs.Head.{empty_head};
+ghost use Rattle.refusal.specs.Refusals.{number_of};
 ghost use Rattle.book.specs.Calls.{post};
-ghost use Rattle.carrying.specs.Carrying.{Workable};
+ghost use Rattle.carrying.specs.Carrying.{Audited};
 ghost use Rattle.posting.specs.Posting.{Posts};
 ghost use Rattle.sheet.specs.Sheet.{movements_of, read_number};
-ghost use Rattle.run.specs.Run.{transfer_at, transfers_of, Gives, run_from, running, Runnable};
+ghost use Rattle.run.specs.Run.{transfer_at, transfers_of, not_run, Gives, run_from, running, Runnable, Checked};
 
 use book::{Head, Transfer, Transferred};
+use moving::Workspace;
+use refusal::Refusal;
+use sheet::answer::Header;
 
 // What a run yields: the number of the movement that stopped it or 0, that movement's index or the count of all, the even count, and
 // the head after the last accepted movement.
 #[repr(C)]
-#[derive(Clone, Copy)]
+#[derive(Clone, Copy, Debug, PartialEq, Eq)]
 pub struct Ran {
     pub number: u32,
     pub index: u32,
@@ -23,11 +26,12 @@ pub struct Ran {
     pub head: Head,
 }
 
-fn refused(number: u32) -> Ran
-    ensures { result ≡ record { number = number; index = 0; even = 0; head = empty_head 0 0 } }
+// A run that did not begin.
+fn refused(why: Refusal) -> Ran
+    ensures { result ≡ not_run (number_of why) }
 {
     Ran {
-        number: number,
+        number: u32::from(why),
         index: 0,
         even: 0,
         head: ledger::opening::empty_head(0, 0),
@@ -38,26 +42,12 @@ fn refused(number: u32) -> Ran
 fn count_even(made: Transferred) -> u32
     ensures { (result ≡ if_zero (made.split + made.born) 1 0) × (result ≤ 1) }
 {
-    if made.split != 0 {
-        return 0;
-    }
-    if made.born != 0 {
-        return 0;
-    }
-    1
+    u32::from(made.split == 0 && made.born == 0)
 }
 
 // Movement i is made.
-fn make(
-    sheet: &[u8],
-    i: u32,
-    head: Head,
-    table: &mut [u32],
-    keys: &mut [u64],
-    spare: &mut [u64],
-    lifted: &mut [u32],
-) -> Transferred
-    requires { (read_number sheet.now ≡ 0) × (i < movements_of sheet.now) × Workable head table.old keys.old spare.old lifted.old }
+fn make(sheet: &[u8], i: u32, head: Head, table: &mut [u32], work: &mut Workspace) -> Transferred
+    requires { (read_number sheet.now ≡ 0) × (i < movements_of sheet.now) × Audited head table.old }
     ensures { Posts head (post (transfer_at sheet.now i)) table.old table.new result }
 {
     let m = sheet::movement_known(sheet, i);
@@ -68,71 +58,58 @@ fn make(
         weight: m.weight,
         age: m.age,
     };
-    posting::transfer_known(head, table, x, keys, spare, lifted)
+    posting::transfer_known(head, table, x, work)
 }
 
 // All movements are made in turn, until one is refused.
-fn make_all(
-    sheet: &[u8],
-    movements: u32,
-    fresh: Head,
-    table: &mut [u32],
-    keys: &mut [u64],
-    spare: &mut [u64],
-    lifted: &mut [u32],
-) -> Ran
-    requires { Runnable sheet.now movements fresh table.old keys.old spare.old lifted.old }
+fn make_all(sheet: &[u8], movements: u32, fresh: Head, table: &mut [u32]) -> Ran
+    requires { Runnable sheet.now movements fresh table.old }
     ensures { Gives (run_from 0 0 fresh table.old (transfers_of sheet.now)) table.new result }
 {
+    let mut work = Workspace::new();
     let mut head = fresh;
-    let mut even: u32 = 0;
-    let mut i: u32 = 0;
-    while i < movements {
-        let made = make(sheet, i, head, table, keys, spare, lifted);
+    let mut even = 0;
+    for i in 0..movements {
+        let made = make(sheet, i, head, table, &mut work);
         if made.number != 0 {
             return Ran {
                 number: made.number,
                 index: i,
-                even: even,
-                head: head,
+                even,
+                head,
             };
         }
         even += count_even(made);
-        let next = made.head;
-        head = next;
-        i += 1;
+        head = made.head;
     }
     Ran {
         number: 0,
-        index: i,
-        even: even,
-        head: head,
+        index: movements,
+        even,
+        head,
     }
+}
+
+// The header of a sheet, and a table with a place at least.
+fn check(sheet: &[u8], table: &[u32]) -> Result<Header, Refusal>
+    ensures { Checked sheet.now table.now result }
+{
+    let header = sheet::read_header(sheet)?;
+    if table.len() < 4 {
+        return Err(Refusal::TableShort);
+    }
+    Ok(header)
 }
 
 // Reads a sheet and makes its movements on a fresh book in the table.
 pub fn run(sheet: &[u8], table: &mut [u32]) -> Ran
     ensures { Gives (running sheet.now table.old) table.new result }
 {
-    let r = sheet::read(sheet);
-    if r.number != 0 {
-        return refused(r.number);
+    match check(sheet, table) {
+        Ok(header) => {
+            let fresh = ledger::opening::empty_head(header.rule, header.vessels);
+            make_all(sheet, header.movements, fresh, table)
+        }
+        Err(why) => refused(why),
     }
-    if table.len() < 4 {
-        return refused(refusal::TABLE_SHORT);
-    }
-    let opened = ledger::opening::open(r.rule, r.vessels);
-    let fresh = opened.head;
-    let mut keys = [0u64; moving::KEYS];
-    let mut spare = [0u64; moving::KEYS];
-    let mut lifted = [0u32; moving::LIFTED];
-    make_all(
-        sheet,
-        r.movements,
-        fresh,
-        table,
-        &mut keys,
-        &mut spare,
-        &mut lifted,
-    )
 }

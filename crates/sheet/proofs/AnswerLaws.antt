@@ -16,7 +16,7 @@ use Rattle.fields.specs.Movements.{entry_size, entry_in, no_entry}
 use Rattle.sheet.specs.Sheet.{entries_read, names_read, vessels_of, movements_of, read_number}
 use Rattle.sheet.specs.Answers.{header_numbers, header_of, refused_reading, reading, reading_of, movement_of, movement_answer, asked_number, movement_at, movement_number, movement_asked, name_number, name_bytes}
 use Rattle.fields.proofs.GroupLaws.{group_at}
-use Rattle.fields.proofs.Outcomes.{refused as no_zero}
+use Rattle.refusal.proofs.Refusals.{some_number}
 use Rattle.sheet.proofs.ReadLaws.{good}
 
 pub sheet_fits : (s : List ℕ) (n k : ℕ) → n ≡ read_number s → n ≡ 0 → k ≤ header_size → k ≤ length s
@@ -28,7 +28,7 @@ module _ (s : List ℕ) where
   header_refused (Ok h) why is e = absurd is
   header_refused (Err other) why is e =
       let n : number_of other ≡ read_number s = ap number_of is ∙ e in
-      rw (← n) (not_zero (number_of other) (header_of s) (refused_reading (number_of other)) (no_zero (Err other) refl))
+      rw (← n) (not_zero (number_of other) (header_of s) (refused_reading (number_of other)) (some_number other))
 
   pub header_good : (h : Header) → h ≡ header_numbers s → 0 ≡ read_number s → reading_of (Ok h) ≡ reading s
   header_good h eh e = rw (eh, ← e)
@@ -94,11 +94,11 @@ pub find_refused : (s : List ℕ) (index : ℕ) (r : Result Movement Refusal) (w
 find_refused s index (Ok m) why is e = absurd is
 find_refused s index (Err other) why is e =
     let n : refused_reading (number_of other) ≡ reading s = ap (λ (w : Refusal). refused_reading (number_of w)) is ∙ e in
-    movement_refused s (refused_reading (number_of other)) index n (movement_answer (number_of other) no_entry) (no_zero (Err other) refl) refl
+    movement_refused s (refused_reading (number_of other)) index n (movement_answer (number_of other) no_entry) (some_number other) refl
 
 -- the ways out of `check_vessel`
 pub vessel_refused : (s : List ℕ) (vessel : ℕ) (why : Refusal) → refused_reading (number_of why) ≡ reading s → number_of why ≡ name_number s vessel
-vessel_refused s vessel why e = asked_refused s (refused_reading (number_of why)) e (5 if leb (vessels_of s) vessel) (no_zero (Err why) refl)
+vessel_refused s vessel why e = asked_refused s (refused_reading (number_of why)) e (5 if leb (vessels_of s) vessel) (some_number why)
 
 module _ (s : List ℕ) (r : Reading) (vessel : ℕ) (e : r ≡ reading s) (z : r.number ≡ 0) where
   pub vessel_past : r.vessels ≤ vessel → 5 ≡ name_number s vessel

@@ -1,6 +1,6 @@
 -- The sheet's number, then the vessel.
 use Rattle.sheet.proofs.AnswerLaws.{vessel_refused, vessel_past, vessel_good}
-use Rattle.fields.proofs.Outcomes.{passed_on}
+use Rattle.refusal.proofs.Refusals.{passed_on}
 use Rattle.std.proofs.Common.{rules}
 use Rattle.sheet.proofs.check_vessel.Goals as goal
 

@@ -1,7 +1,7 @@
 -- `entries::check_all_given`: what its invariant leaves to show.
 use Rattle.std.proofs.Common.{rules}
 use Rattle.fields.proofs.EntryLaws.{named_given, check_turn, check_stop, check_end}
-use Rattle.fields.proofs.Outcomes.{outcomes}
+use Rattle.refusal.proofs.Refusals.{outcomes}
 use Rattle.fields.proofs.entries.check_all_given.Goals as goal
 
 pub returns-in_err-check_given : goal.returns-in_err-check_given

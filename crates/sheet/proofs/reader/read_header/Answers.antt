@@ -1,7 +1,7 @@
 -- The header's number, and where that is 0 that of what lies behind, which a good header bounds.
 use Rattle.sheet.proofs.ReadLaws.{out_header, out_body, header_holds, body_fits}
 use Rattle.sheet.proofs.AnswerLaws.{header_refused, header_good}
-use Rattle.fields.proofs.Outcomes.{refused}
+use Rattle.refusal.proofs.Refusals.{refused}
 use Rattle.std.proofs.Common.{rules}
 use Rattle.sheet.proofs.reader.read_header.Goals as goal
 

@@ -1,6 +1,6 @@
 -- The number of the counts, and where that is 0 that of the content, for which good counts are bounds enough.
 use Rattle.writing.proofs.WriteLaws.{out_counts, out_content, content_fits}
-use Rattle.fields.proofs.Outcomes.{outcomes}
+use Rattle.refusal.proofs.Refusals.{outcomes}
 use Rattle.std.proofs.Common.{rules, refl}
 use Rattle.writing.proofs.writer.Draft.check.Goals as goal
 

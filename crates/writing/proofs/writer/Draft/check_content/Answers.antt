@@ -1,6 +1,6 @@
 -- Each return is the first check that applies: the names, the movements in turn, the room.
 use Rattle.writing.proofs.WriteLaws.{out_movement, out_room, out_all}
-use Rattle.fields.proofs.Outcomes.{outcomes}
+use Rattle.refusal.proofs.Refusals.{outcomes}
 use Rattle.std.proofs.Common.{rules}
 use Rattle.writing.proofs.writer.Draft.check_content.Goals as goal
 

@@ -1,0 +1,13 @@
+-- `check` meets its contract: the sheet's own number, then 1.
+use Rattle.std.proofs.Common.{rules}
+use Rattle.run.proofs.RunLaws.{unread, no_place, can_begin}
+use Rattle.run.proofs.check.Goals as goal
+
+pub returns-in_err-header : goal.returns-in_err-header
+returns-in_err-header c = search (rules, unread, c.in_err-header.ensures)
+
+pub returns-then-table-lt4 : goal.returns-then-table-lt4
+returns-then-table-lt4 c = search (rules, no_place, c.in_ok-header.ensures)
+
+pub returns : goal.returns
+returns c = search (rules, can_begin, c.in_ok-header.ensures)
