@@ -88,7 +88,7 @@ pub fn check_all_given(numbers: &[u32], count: usize, vessels: u32) -> Result<()
     requires { given_size * count ≤ length numbers.now }
     ensures { outcome_number result ≡ first (entries_checks (given_checks vessels) (entries_given count numbers.now)) }
 {
-    // `check_entries` over again but for the read and the check, which are all that one function of the two could be told.
+    // As in `check_entries`: one function of the two would be told the read and the check, and they are the whole loop.
     for i in 0..count {
         check_given(given(numbers, GIVEN_SIZE * i), vessels)?;
     }
