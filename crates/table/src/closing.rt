@@ -8,42 +8,29 @@ use crate::{Piece, piece_at, put_piece};
 // A holder that no book can have: it marks a place whose piece has gone.
 pub const VACANT: u32 = refusal::TOP;
 
-// The next place, after piece p was put at place j.
-fn next_place(j: usize, p: Piece) -> usize
-    requires { j < most_places }
-    ensures { result ≡ cond (eqb p.holder VACANT) j (j + 1) }
-{
-    if p.holder == VACANT {
-        return j;
-    }
-    j + 1
-}
-
 // The pieces that are not vacant close up; the answer is their count. The numbers that this frees are left as they are.
 fn close_up(table: &mut [u32], n: usize) -> usize
     requires { (n ≤ most_places) × (4 * n ≤ length table.old) }
     ensures { Closes n table.old table.new result }
 {
-    let mut j: usize = 0;
-    let mut i: usize = 0;
-    while i < n {
+    let mut j = 0;
+    for i in 0..n {
         let p = piece_at(table, n, i);
         put_piece(table, n, j, p);
-        j = next_place(j, p);
-        i += 1;
+        if p.holder != VACANT {
+            j += 1;
+        }
     }
     j
 }
 
 // The same, where it is known how many have gone: if none has, there is nothing to do.
+#[tactic(auto, using(crate::proofs::ClosingUp::no_gaps))]
 fn close_gaps(table: &mut [u32], n: usize, gone: usize) -> usize
     requires { (n ≤ most_places) × (4 * n ≤ length table.old) × (length (stay (pieces_of n table.old)) + gone ≡ n) }
     ensures { Closes n table.old table.new result }
 {
-    if gone == 0 {
-        return n;
-    }
-    close_up(table, n)
+    if gone == 0 { n } else { close_up(table, n) }
 }
 
 // The first g lifted pieces are put at place j and on.
@@ -52,11 +39,8 @@ pub fn append(table: &mut [u32], j: usize, lifted: &[u32], g: usize)
     ensures { table.new ≡ over (j + g) (pieces_of j table.old ++ pieces_of g lifted.now) table.old }
 {
     let n = j + g;
-    let mut c: usize = 0;
-    while c < g {
-        let p = piece_at(lifted, g, c);
-        put_piece(table, n, j + c, p);
-        c += 1;
+    for c in 0..g {
+        put_piece(table, n, j + c, piece_at(lifted, g, c));
     }
 }
 

@@ -11,7 +11,7 @@ pub mod closing; // closing.rt: pieces close up where others have gone
 pub const PLACES: usize = 4096;
 
 // Weight of one origin and birth minute, in one vessel.
-#[derive(Clone, Copy)]
+#[derive(Clone, Copy, PartialEq, Eq, Debug, Default)]
 pub struct Piece {
     pub holder: u32,
     pub origin: u32,
@@ -19,18 +19,32 @@ pub struct Piece {
     pub weight: u32,
 }
 
+impl Piece {
+    // The piece in another vessel.
+    pub fn hand_to(self, holder: u32) -> Self
+        ensures { result ≡ hand_to holder self }
+    {
+        Piece { holder, ..self }
+    }
+
+    // The piece with another weight.
+    pub fn of_weight(self, weight: u32) -> Self
+        ensures { result ≡ of_weight weight self }
+    {
+        Piece { weight, ..self }
+    }
+}
+
 // How many pieces the table has room for.
+#[tactic(auto, unfolding(crate::specs::Table::places_of))]
 pub fn places(table: &[u32]) -> usize
     ensures { result ≡ places_of table.now }
 {
-    let fit = table.len() / 4;
-    if PLACES < fit {
-        return PLACES;
-    }
-    fit
+    PLACES.min(table.len() / 4)
 }
 
 // The piece at place i of n.
+#[tactic(auto, using(crate::proofs::Table::piece_law))]
 pub fn piece_at(table: &[u32], n: usize, i: usize) -> Piece
     requires { (i < n) × (4 * n ≤ length table.now) }
     ensures { result ≡ piece_in n table.now i }
@@ -45,6 +59,7 @@ pub fn piece_at(table: &[u32], n: usize, i: usize) -> Piece
 }
 
 // Piece p is put at place i of n.
+#[tactic(auto, using(crate::proofs::Table::put_law))]
 pub fn put_piece(table: &mut [u32], n: usize, i: usize, p: Piece)
     requires { (i < n) × (4 * n ≤ length table.old) }
     ensures { table.new ≡ put_in n i p table.old }
@@ -56,52 +71,26 @@ pub fn put_piece(table: &mut [u32], n: usize, i: usize, p: Piece)
     table[at + 3] = p.weight;
 }
 
-// The piece at a place, or none.
-pub fn piece_or_none(table: &[u32], n: usize, i: usize) -> Piece
+// The piece at a place, or the piece of zeros where there is none.
+#[tactic(auto, using(crate::proofs::Table::no_piece_there))]
+pub fn piece_or_default(table: &[u32], n: usize, i: usize) -> Piece
     requires { 4 * n ≤ length table.now }
     ensures { result ≡ piece_in n table.now i }
 {
     if i < n {
-        return piece_at(table, n, i);
-    }
-    Piece {
-        holder: 0,
-        origin: 0,
-        birth: 0,
-        weight: 0,
+        piece_at(table, n, i)
+    } else {
+        Piece::default()
     }
 }
 
 // Piece p is put at a place, if it is there.
+#[tactic(auto, using(crate::proofs::Table::not_put))]
 pub fn put_if_there(table: &mut [u32], n: usize, i: usize, p: Piece)
     requires { 4 * n ≤ length table.old }
     ensures { table.new ≡ put_in n i p table.old }
 {
     if i < n {
         put_piece(table, n, i, p);
-    }
-}
-
-// The piece in another vessel.
-pub fn hand_to(p: Piece, holder: u32) -> Piece
-    ensures { result ≡ hand_to holder p }
-{
-    Piece {
-        holder: holder,
-        origin: p.origin,
-        birth: p.birth,
-        weight: p.weight,
-    }
-}
-
-// The piece with another weight.
-pub fn of_weight(p: Piece, weight: u32) -> Piece
-    ensures { result ≡ of_weight weight p }
-{
-    Piece {
-        holder: p.holder,
-        origin: p.origin,
-        birth: p.birth,
-        weight: weight,
     }
 }
