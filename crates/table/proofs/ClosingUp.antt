@@ -1,13 +1,13 @@
--- Laws of closing up. Which pieces stay; then the loops: while pieces close up, the first j have their places and those from i on are to
--- come; while lifted pieces are put behind, c of them are pasted from place j on.
+-- Laws of closing up. Which pieces stay; then the loop: the first j pieces have their places and those from i on are to come; then what
+-- is copied behind them.
 -- Assumes nothing.
-use Rattle.std.proofs.Common.{◌≡◌, refl, sym, ap, ◌∙◌, Bool, true, false, cond, List, [], ◌∷◌, ◌++◌, append_assoc, append-nil, ℕ, suc, ◌+◌, ◌*◌, ◌≤◌, ◌<◌, add-one, arith, eqb, length, get_or, drop, drop_of_length-le, length-append, drop-cons, drop-set-lt, ne_eqb}
-use lib.Seq.{paste, paste-zero, paste-suc, length-paste}
+use Rattle.std.proofs.Common.{◌≡◌, refl, sym, ap, ◌∙◌, Bool, true, false, cond, List, [], ◌∷◌, ◌++◌, append_assoc, append-nil, ℕ, suc, ◌+◌, ◌-◌, ◌*◌, ◌≤◌, ◌<◌, add-one, arith, eqb, length, take, drop, drop-drop, drop_of_length-le, length-append, drop-cons, drop-set-lt, ne_eqb}
+use borrow.Rule.Slice.PartMut.{put_mid}
 use Rattle.table.specs.declared.Piece.{Piece}
 use Rattle.table.specs.Pieces.{no_piece, All, done, also}
 use Rattle.table.specs.Table.{pieces_of, lay, over, piece_in, put_in}
 use Rattle.table.specs.Closing.{VACANT, Present, stay, settled, Settling, Closes}
-use Rattle.table.proofs.Table.{length_pieces, pieces_over, rest_over, pieces_take, formed, same_behind, put_pieces, put_behind, put_more, put_same}
+use Rattle.table.proofs.Table.{length_pieces, same_behind, put_pieces, put_behind, put_more, put_same, flat_pieces, flat_append}
 
 pub stay_append : (xs ys : List Piece) → stay (xs ++ ys) ≡ stay xs ++ stay ys
 unfolding stay
@@ -88,34 +88,12 @@ next_most j j' i false e h = omega arith
 pub no_gaps : (n gone : ℕ) (t : List ℕ) → length (stay (pieces_of n t)) + gone ≡ n → gone ≡ 0 → Closes n t t n
 no_gaps n gone t e z = record { stands = sym (stay_same (pieces_of n t) (omega (arith, length_pieces n t))); most = omega arith; behind = refl }
 
--- c of the lifted pieces are put behind the first j
-abbrev pub laid : ℕ → ℕ → List ℕ → List ℕ → ℕ → List ℕ
-laid j g t l c = over (j + g) (paste (pieces_of (j + g) t) j (pieces_of g l) c) t
-
-pub append_start : (j g : ℕ) (t l : List ℕ) → 4 * (j + g) ≤ length t → t ≡ laid j g t l 0
-append_start j g t l h = formed (j + g) t h ∙ ap (λ (ps : List Piece). over (j + g) ps t) (paste-zero (pieces_of (j + g) t) j (pieces_of g l))
-
-module _ (j g c : ℕ) (t₀ t l : List ℕ) (e : t ≡ laid j g t₀ l c) where
-  abbrev before : List Piece
-  before = pieces_of (j + g) t₀
-
-  abbrev lifts : List Piece
-  lifts = pieces_of g l
-
-  pub append_next : (t' : List ℕ) (p : Piece) → c < g → p ≡ get_or lifts c no_piece → t' ≡ put_in (j + g) (j + c) p t → t' ≡ laid j g t₀ l (c + 1)
-  append_next t' p h ep et =
-      let lb : length before ≡ j + g = length_pieces (j + g) t₀ in
-      let ll : length lifts ≡ g = length_pieces g l in
-      let lp : length (paste before j lifts c) ≡ j + g = length-paste before j lifts c (omega arith) (omega arith) ∙ lb in
-      let ps : pieces_of (j + g) t ≡ paste before j lifts c = ap (pieces_of (j + g)) e ∙ pieces_over (j + g) _ (drop (4 * (j + g)) t₀) lp in
-      let rs : drop (4 * (j + g)) t ≡ drop (4 * (j + g)) t₀ = ap (drop (4 * (j + g))) e ∙ rest_over (j + g) _ (drop (4 * (j + g)) t₀) lp in
-      et ∙ rw (ps, rs, ep, add-one) (ap (λ (ps : List Piece). over (j + g) ps t₀) (paste-suc before j lifts c no_piece (omega arith) (omega arith)))
-
-  pub append_end : c ≤ g → g ≤ c → t ≡ over (j + g) (pieces_of j t₀ ++ pieces_of g l) t₀
-  append_end h k =
-      let ec : c ≡ g = omega arith in
-      let no : drop (j + g) before ≡ [] = drop_of_length-le before {i = j + g} (let q = length_pieces (j + g) t₀ in omega arith) in
-      e ∙ rw (ec, no, append-nil, pieces_take j (j + g) t₀ (omega arith), pieces_take g g l (omega arith))
+-- the lifted pieces are copied behind the first j: the numbers up to there stay, and so do those behind
+pub appended : (j g : ℕ) (t l ys : List ℕ) → 4 * (j + g) ≤ length t → 4 * g ≤ length l → ys ≡ take (4 * g) l
+    → put_mid (4 * j) (4 * (j + g) - 4 * j) t ys ≡ over (j + g) (pieces_of j t ++ pieces_of g l) t
+appended j g t l ys h k e =
+    let size : 4 * j + (4 * (j + g) - 4 * j) ≡ 4 * (j + g) = omega arith in
+    rw (e, drop-drop (4 * (j + g) - 4 * j) (4 * j) t, size, flat_append, flat_pieces j t (omega arith), flat_pieces g l k, append_assoc)
 
 -- both: the pieces settle
 module _ (n gone g j : ℕ) (t t' l : List ℕ) (asked : Settling n gone g t l) (closes : Closes n t t' j) where

@@ -1,7 +1,7 @@
 -- The laws of a table of pieces. Each is by induction over lists of the form `flat ps ++ rest`, at places counted by `quad`,
 -- which computes where `4 * n` does not.
 -- Assumes nothing.
-use Rattle.std.proofs.Common.{ℕ, zero, suc, ◌+◌, ◌-◌, ◌*◌, ◌≤◌, ◌<◌, not-suc-le-zero, le_of_suc-le-suc, add-zero, arith, ◌≡◌, refl, sym, ap, ◌∙◌, List, [], ◌∷◌, ◌++◌, add-one, length, get_or, take, drop, set, length-set, drop-drop, get_or-drop, take-suc-set}
+use Rattle.std.proofs.Common.{ℕ, zero, suc, ◌+◌, ◌-◌, ◌*◌, ◌≤◌, ◌<◌, not-suc-le-zero, le_of_suc-le-suc, add-zero, arith, ◌≡◌, refl, sym, ap, ◌∙◌, List, [], ◌∷◌, ◌++◌, add-one, length, get_or, take, drop, set, length-set, drop-drop, get_or-drop, take-suc-set, take_at}
 use native.Mathlib.Numerals.{towards_suc}
 use lib.ListN.{get_or-eq_default}
 use lib.Seq.{sets, take-set-le, set_out}
@@ -41,6 +41,17 @@ split (suc n) (a ∷ b ∷ c ∷ []) h = absurd (not-suc-le-zero (le_of_suc-le-s
 split (suc n) (a ∷ b ∷ c ∷ d ∷ t) h =
     ap (λ (l : List ℕ). a ∷ b ∷ c ∷ d ∷ l)
     (split n t (le_of_suc-le-suc (le_of_suc-le-suc (le_of_suc-le-suc (le_of_suc-le-suc h)))))
+
+-- the numbers of the first pieces are the first numbers
+pub flat_pieces : (n : ℕ) (t : List ℕ) → 4 * n ≤ length t → flat (pieces_of n t) ≡ take (4 * n) t
+flat_pieces n t h =
+    let long : length (flat (pieces_of n t)) ≡ 4 * n = length_flat (pieces_of n t) ∙ rw length_pieces (sym (quad_is n)) in
+    sym (ap (take (4 * n)) (split n t (rw quad_is at h)) ∙ take_at (flat (pieces_of n t)) (drop (quad n) t) (4 * n) long)
+
+pub flat_append : (ps qs : List Piece) → flat (ps ++ qs) ≡ flat ps ++ flat qs
+unfolding flat
+flat_append [] qs = refl
+flat_append (p ∷ ps) qs = ap (λ (l : List ℕ). p.holder ∷ p.origin ∷ p.birth ∷ p.weight ∷ l) (flat_append ps qs)
 
 -- the pieces of a table that is written out
 pub pieces_flat : (ps : List Piece) (rest : List ℕ) → pieces_of (length ps) (flat ps ++ rest) ≡ ps

@@ -1,7 +1,7 @@
 // Pieces close up where others have gone, and lifted pieces are put at the end.
-ghost use Rattle.std.specs.Prelude.{◌≡◌, cond, ◌++◌, ◌<◌, ◌≤◌, ◌+◌, ◌*◌, eqb, length};
+ghost use Rattle.std.specs.Prelude.{◌≡◌, ◌++◌, ◌≤◌, ◌+◌, ◌*◌, length};
 ghost use Rattle.table.specs.Table.{most_places, pieces_of, lay, over};
-ghost use Rattle.table.specs.Closing.{VACANT, stay, settled, Settling, Closes};
+ghost use Rattle.table.specs.Closing.{stay, settled, Settling, Closes};
 
 use crate::{Piece, piece_at, put_piece};
 
@@ -34,14 +34,12 @@ fn close_gaps(table: &mut [u32], n: usize, gone: usize) -> usize
 }
 
 // The first g lifted pieces are put at place j and on.
+#[tactic(auto, using(crate::proofs::ClosingUp::appended))]
 pub fn append(table: &mut [u32], j: usize, lifted: &[u32], g: usize)
     requires { (4 * (j + g) ≤ length table.old) × (4 * g ≤ length lifted.now) }
     ensures { table.new ≡ over (j + g) (pieces_of j table.old ++ pieces_of g lifted.now) table.old }
 {
-    let n = j + g;
-    for c in 0..g {
-        put_piece(table, n, j + c, piece_at(lifted, g, c));
-    }
+    table[4 * j..4 * (j + g)].copy_from_slice(&lifted[..4 * g]);
 }
 
 // Of the first n places `gone` are vacant: the pieces of the others close up, and the first g lifted pieces are put behind them.
