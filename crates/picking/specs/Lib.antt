@@ -1,2 +1,3 @@
+pub mod Policy
 pub mod Plan
 pub mod Ordering

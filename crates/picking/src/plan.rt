@@ -6,10 +6,19 @@ ghost use Rattle.picking.specs.Plan.{in_order, plan_from};
 use crate::selection::{Order, nth};
 
 // How many pieces go whole, and the weight still wanted then.
-#[derive(Clone, Copy)]
+#[derive(Clone, Copy, PartialEq, Eq, Debug)]
 pub struct Plan {
     pub whole: usize,
     pub left: u32,
+}
+
+impl Plan {
+    // Whether the plan wants a place more, and none is free.
+    pub fn is_full(self, n: usize, places: usize) -> bool
+        ensures { result ≡ cond (eqb self.left 0) false (leb places n) }
+    {
+        self.left != 0 && places <= n
+    }
 }
 
 // The plan for a weight, with the keys in order.
@@ -18,37 +27,15 @@ pub fn plan_of(table: &[u32], n: usize, keys: &[u64], order: Order, weight: u32)
     ensures { result ≡ plan_from 0 (in_order order keys.now) weight (pieces_of n table.now) }
 {
     let mut left = weight;
-    let mut c: usize = 0;
-    while c < order.count {
-        if left == 0 {
-            return Plan {
-                whole: c,
-                left: left,
-            };
-        }
-        let i = nth(keys, order, c);
-        let p = table::piece_or_none(table, n, i);
-        if left < p.weight {
-            return Plan {
-                whole: c,
-                left: left,
-            };
+    for c in 0..order.count {
+        let p = table::piece_or_default(table, n, nth(keys, order, c));
+        if left == 0 || left < p.weight {
+            return Plan { whole: c, left };
         }
         left -= p.weight;
-        c += 1;
     }
     Plan {
-        whole: c,
-        left: left,
+        whole: order.count,
+        left,
     }
-}
-
-// Whether the plan wants a place more, and none is free.
-pub fn is_full(plan: Plan, n: usize, places: usize) -> bool
-    ensures { result ≡ cond (eqb plan.left 0) false (leb places n) }
-{
-    if plan.left == 0 {
-        return false;
-    }
-    places <= n
 }

@@ -1,16 +1,13 @@
 -- `plan::plan_of`: what its invariant leaves to show.
 use Rattle.std.proofs.Common.{rules}
-use Rattle.picking.proofs.Walk.{plan_reached, plan_next, plan_stop, plan_end}
+use Rattle.picking.proofs.Walk.{plan_next, plan_stop, plan_end}
 use Rattle.picking.proofs.plan.plan_of.Goals as goal
 
 pub returns-then-left-eq0 : goal.returns-then-left-eq0
-returns-then-left-eq0 c = search (rules, plan_reached)
-
-pub returns-then-left-p : goal.returns-then-left-p
-returns-then-left-p c = search (rules, plan_stop)
+returns-then-left-eq0 c = search (rules, plan_stop)
 
 pub loop-c-preserved : goal.loop-c-preserved
-loop-c-preserved c = (search (rules, plan_next), search rules)
+loop-c-preserved c = search (rules, plan_next)
 
 pub returns : goal.returns
 returns c = search (rules, plan_end)

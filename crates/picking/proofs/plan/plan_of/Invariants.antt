@@ -1,13 +1,10 @@
 -- `plan::plan_of` meets its contract. The invariant: the plan of the keys from number c on, for the weight left, is the plan of all.
 -- A turn takes one key off; the loop ends where the weight is reached, at a piece that is too heavy, or after the last key.
-use Rattle.std.proofs.Common.{◌-◌, ◌≤◌, ◌≡◌, drop}
+use Rattle.std.proofs.Common.{◌≡◌, drop}
 use Rattle.table.specs.Table.{pieces_of}
 use Rattle.picking.specs.Plan.{plan_from, in_order}
 use Rattle.picking.proofs.plan.plan_of.Given as goal
 
 abbrev pub invariant-loop-c : goal.invariant-loop-c
 invariant-loop-c l =
-    (plan_from l.c (drop l.c (in_order l.order l.keys)) l.left (pieces_of l.n l.table) ≡ plan_from 0 (in_order l.order l.keys) l.weight (pieces_of l.n l.table)) × (l.c ≤ l.order.count)
-
-abbrev pub decreases-loop-c : goal.decreases-loop-c
-decreases-loop-c l = l.order.count - l.c
+    plan_from l.c (drop l.c (in_order l.order l.keys)) l.left (pieces_of l.n l.table) ≡ plan_from 0 (in_order l.order l.keys) l.weight (pieces_of l.n l.table)
