@@ -15,9 +15,9 @@ fn lift_one(table: &mut [u32], n: usize, i: usize, destination: u32, lifted: &mu
     requires { (4 * n ≤ length table.old) × (c < lifted_places) × (4 * lifted_places ≤ length lifted.old) }
     ensures { LiftsOne n i destination c table.old lifted.old table.new lifted.new }
 {
-    let p = table::piece_or_none(table, n, i);
-    table::put_piece(lifted, LIFTED_PLACES, c, table::hand_to(p, destination));
-    table::put_if_there(table, n, i, table::hand_to(p, closing::VACANT));
+    let p = table::piece_or_default(table, n, i);
+    table::put_piece(lifted, LIFTED_PLACES, c, p.hand_to(destination));
+    table::put_if_there(table, n, i, p.hand_to(closing::VACANT));
 }
 
 // The pieces that go whole are lifted.
@@ -33,22 +33,9 @@ fn lift(
     requires { Room n whole order keys.now table.old lifted.old }
     ensures { Lifts n whole m order keys.now table.old table.new lifted.new }
 {
-    let mut c: usize = 0;
-    while c < whole {
-        let i = nth(keys, order, c);
-        lift_one(table, n, i, m.destination, lifted, c);
-        c += 1;
+    for c in 0..whole {
+        lift_one(table, n, nth(keys, order, c), m.destination, lifted, c);
     }
-}
-
-// What is left of a when b is taken, at least 0.
-fn less(a: u32, b: u32) -> u32
-    ensures { result ≡ a - b }
-{
-    if b <= a {
-        return a - b;
-    }
-    0
 }
 
 // The piece at place i is split: the part of this weight goes to place c of the lifted, with its new holder.
@@ -64,15 +51,10 @@ fn split_one(
     requires { (4 * n ≤ length table.old) × (c < lifted_places) × (4 * lifted_places ≤ length lifted.old) }
     ensures { Splits n i destination weight c table.old lifted.old table.new lifted.new }
 {
-    let p = table::piece_or_none(table, n, i);
-    let rest = less(p.weight, weight);
-    table::put_piece(
-        lifted,
-        LIFTED_PLACES,
-        c,
-        table::hand_to(table::of_weight(p, weight), destination),
-    );
-    table::put_if_there(table, n, i, table::of_weight(p, rest));
+    let p = table::piece_or_default(table, n, i);
+    let rest = p.weight.saturating_sub(weight);
+    table::put_piece(lifted, LIFTED_PLACES, c, p.of_weight(weight).hand_to(destination));
+    table::put_if_there(table, n, i, p.of_weight(rest));
 }
 
 // What follows the whole ones is lifted too: the part of a split, what is born, or nothing. The answer is the count of the lifted.
@@ -89,8 +71,7 @@ fn put_remainder(
     ensures { Follows n m order plan keys.now table.old lifted.old
         table.new lifted.new result }
 {
-    let whole = plan.whole;
-    let left = plan.left;
+    let Plan { whole, left } = plan;
     if left == 0 {
         return whole;
     }
@@ -99,17 +80,13 @@ fn put_remainder(
         split_one(table, n, i, m.destination, left, lifted, whole);
         return whole + 1;
     }
-    table::put_piece(
-        lifted,
-        LIFTED_PLACES,
-        whole,
-        Piece {
-            holder: m.destination,
-            origin: m.source,
-            birth: m.birth,
-            weight: left,
-        },
-    );
+    let born = Piece {
+        holder: m.destination,
+        origin: m.source,
+        birth: m.birth,
+        weight: left,
+    };
+    table::put_piece(lifted, LIFTED_PLACES, whole, born);
     whole + 1
 }
 
@@ -135,19 +112,11 @@ fn answer(order: Order, plan: Plan, count: usize) -> Applied
     requires { (plan.whole ≤ order.count) × (order.count ≤ most_places) }
     ensures { result ≡ plan_answer order plan count }
 {
-    let whole = plan.whole as u32;
-    if plan.whole < order.count {
-        return Applied {
-            whole,
-            split: plan.left.min(1),
-            born: 0,
-            count,
-        };
-    }
+    let splits = plan.whole < order.count;
     Applied {
-        whole,
-        split: 0,
-        born: plan.left,
+        whole: plan.whole as u32,
+        split: if splits { plan.left.min(1) } else { 0 },
+        born: if splits { 0 } else { plan.left },
         count,
     }
 }

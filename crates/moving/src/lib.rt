@@ -72,7 +72,7 @@ pub fn move_pieces(
         &mut work.spare,
     );
     let plan = picking::plan::plan_of(table, n, &work.keys, order, m.weight);
-    if picking::plan::is_full(plan, n, places) {
+    if plan.is_full(n, places) {
         return None;
     }
     Some(apply::apply(table, n, &work.keys, order, plan, m, &mut work.lifted))

@@ -4,10 +4,10 @@ use Rattle.moving.proofs.Lifting.{lift_start, lift_next, lift_end}
 use Rattle.moving.proofs.apply.lift.Goals as goal
 
 pub loop-c-init : goal.loop-c-init
-loop-c-init c = (search (rules, lift_start), search rules, search rules, search rules)
+loop-c-init c = search (rules, lift_start)
 
 pub loop-c-preserved : goal.loop-c-preserved
-loop-c-preserved c = (search (rules, lift_next), search rules, search rules, search rules)
+loop-c-preserved c = search (rules, lift_next)
 
 pub returns : goal.returns
 returns c = search (rules, lift_end)

@@ -4,9 +4,4 @@ use Rattle.moving.proofs.Lifting.{Lifting}
 use Rattle.moving.proofs.apply.lift.Given as goal
 
 abbrev pub invariant-loop-c : goal.invariant-loop-c
-invariant-loop-c l =
-    Lifting l.n l.whole l.c l.m l.order l.keys l.initial.table l.table l.lifted
-    × (l.c ≤ l.whole) × (length l.table ≡ length l.initial.table) × (length l.lifted ≡ length l.initial.lifted)
-
-abbrev pub decreases-loop-c : goal.decreases-loop-c
-decreases-loop-c l = l.whole - l.c
+invariant-loop-c l = Lifting l.n l.whole l.c l.m l.order l.keys l.initial.table l.table l.lifted
