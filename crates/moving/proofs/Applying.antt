@@ -24,19 +24,19 @@ length_reduced : (w : ℕ) (ks : List ℕ) (ps : List Piece) → length (reduced
 length_reduced w [] ps = refl
 length_reduced w (k ∷ ks) ps = length-set ps (place_of k) _
 
-module _ (n : ℕ) (m : Move) (o : Order) (r : Plan) (keys t : List ℕ) where
+module _ (n : ℕ) (m : Move) (o : Order) (r : Plan) (t : List ℕ) where
   abbrev vacant : List Piece
-  vacant = vacate_all (gone r.whole o keys) (pieces_of n t)
+  vacant = vacate_all (gone r.whole o) (pieces_of n t)
 
   abbrev left : List Piece
-  left = reduced r.left (next r.whole o keys) vacant
+  left = reduced r.left (next r.whole o) vacant
 
   long : length vacant ≡ n
-  long = length_vacate_all (gone r.whole o keys) (pieces_of n t) ∙ length_pieces n t
+  long = length_vacate_all (gone r.whole o) (pieces_of n t) ∙ length_pieces n t
 
   -- lifting, and the remainder
-  pub gathers : (t₁ l₁ t₂ l₂ : List ℕ) (g : ℕ) → Lifts n r.whole m o keys t t₁ l₁ → Follows n m o r keys t₁ l₁ t₂ l₂ g
-      → Gathers n m o r keys t t₂ l₂ g
+  pub gathers : (t₁ l₁ t₂ l₂ : List ℕ) (g : ℕ) → Lifts n r.whole m o t t₁ l₁ → Follows n m o r t₁ l₁ t₂ l₂ g
+      → Gathers n m o r t t₂ l₂ g
   gathers t₁ l₁ t₂ l₂ g lifts follows =
       let ps : pieces_of n t₁ ≡ vacant = ap (pieces_of n) lifts.stands ∙ pieces_over n _ (drop (4 * n) t) long in
       let rs : drop (4 * n) t₁ ≡ drop (4 * n) t = ap (drop (4 * n)) lifts.stands ∙ rest_over n _ (drop (4 * n) t) long in
@@ -48,9 +48,9 @@ module _ (n : ℕ) (m : Move) (o : Order) (r : Plan) (keys t : List ℕ) where
       }
 
   -- settling
-  module _ (can : Applicable n m o r keys t) (t₂ l₂ : List ℕ) (g : ℕ) (gathered : Gathers n m o r keys t t₂ l₂ g) where
+  module _ (can : Applicable n m o r t) (t₂ l₂ : List ℕ) (g : ℕ) (gathered : Gathers n m o r t t₂ l₂ g) where
     long₂ : length left ≡ n
-    long₂ = length_reduced r.left (next r.whole o keys) vacant ∙ long
+    long₂ = length_reduced r.left (next r.whole o) vacant ∙ long
 
     stands : pieces_of n t₂ ≡ left
     stands = ap (pieces_of n) gathered.stands ∙ pieces_over n _ (drop (4 * n) t) long₂
@@ -58,10 +58,10 @@ module _ (n : ℕ) (m : Move) (o : Order) (r : Plan) (keys t : List ℕ) where
     vacancies : length (stay (pieces_of n t₂)) + r.whole ≡ n
     vacancies = rw stands can.rest
 
-    result : settled n t₂ g l₂ ≡ handed m (plan_taken n o r keys t)
+    result : settled n t₂ g l₂ ≡ handed m (plan_taken n o r t)
     result = rw (stands, gathered.goes)
 
-    pub apply_settling : (l : List ℕ) → Room n r.whole o keys t l → length t₂ ≡ length t → length l₂ ≡ length l → Settling n r.whole g t₂ l₂
+    pub apply_settling : (l : List ℕ) → Room n r.whole o t l → length t₂ ≡ length t → length l₂ ≡ length l → Settling n r.whole g t₂ l₂
     apply_settling l room et el = record {
       places = room.places;
       pieces = omega (arith, room.pieces);
@@ -72,9 +72,9 @@ module _ (n : ℕ) (m : Move) (o : Order) (r : Plan) (keys t : List ℕ) where
     }
 
     pub apply_end : (t₃ : List ℕ) (count : ℕ) (a : Applied) → t₃ ≡ lay (settled n t₂ g l₂) t₂ → count ≡ length (settled n t₂ g l₂)
-        → a ≡ plan_answer o r count → Applies n m o r keys t t₃ a
+        → a ≡ plan_answer o r count → Applies n m o r t t₃ a
     apply_end t₃ count a et ec ea =
-        let total : ℕ = length (handed m (plan_taken n o r keys t)) in
+        let total : ℕ = length (handed m (plan_taken n o r t)) in
         let kept : drop (4 * n) t₂ ≡ drop (4 * n) t = ap (drop (4 * n)) gathered.stands ∙ rest_over n _ (drop (4 * n) t) long₂ in
         let sum : length (settled n t₂ g l₂) ≡ length (stay (pieces_of n t₂)) + g = simp (length-append, length_pieces) in
         let size : n ≤ total = omega (arith, vacancies, gathered.least, ap length result) in

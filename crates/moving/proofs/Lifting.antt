@@ -24,33 +24,33 @@ module _ (n i d c : ℕ) (t t' l l' : List ℕ) (p : Piece) (e : p ≡ piece_in 
       → h ≡ of_weight v p → t' ≡ put_in n i h t → Splits n i d w c t l t' l'
   split_off w v a g h ev ea eg el eh et = record { stands = et ∙ rw (eh, ev, e); goes = el ∙ rw (eg, ea, e) }
 
-pub record Lifting (n whole c : ℕ) (m : Move) (o : Order) (keys t₀ t l : List ℕ) : Type 0 where
+pub record Lifting (n whole c : ℕ) (m : Move) (o : Order) (t₀ t l : List ℕ) : Type 0 where
   pub form : t ≡ over n (pieces_of n t) t₀
-  pub vacates : vacate_all (drop c (gone whole o keys)) (pieces_of n t) ≡ vacate_all (gone whole o keys) (pieces_of n t₀)
-  pub picks : pieces_of c l ++ map (hand_to m.destination) (picked (drop c (gone whole o keys)) (pieces_of n t))
-      ≡ map (hand_to m.destination) (picked (gone whole o keys) (pieces_of n t₀))
+  pub vacates : vacate_all (drop c (gone whole o)) (pieces_of n t) ≡ vacate_all (gone whole o) (pieces_of n t₀)
+  pub picks : pieces_of c l ++ map (hand_to m.destination) (picked (drop c (gone whole o)) (pieces_of n t))
+      ≡ map (hand_to m.destination) (picked (gone whole o) (pieces_of n t₀))
 
-module _ (n whole : ℕ) (m : Move) (o : Order) (keys t₀ : List ℕ) where
-  pub lift_start : (l : List ℕ) → 4 * n ≤ length t₀ → Lifting n whole 0 m o keys t₀ t₀ l
+module _ (n whole : ℕ) (m : Move) (o : Order) (t₀ : List ℕ) where
+  pub lift_start : (l : List ℕ) → 4 * n ≤ length t₀ → Lifting n whole 0 m o t₀ t₀ l
   unfolding pieces_of
   lift_start l h = record { form = formed n t₀ h; vacates = refl; picks = refl }
 
   abbrev going : List ℕ
-  going = gone whole o keys
+  going = gone whole o
 
   abbrev hand : Piece → Piece
   hand = hand_to m.destination
 
-  module _ (c : ℕ) (t l : List ℕ) (s : Lifting n whole c m o keys t₀ t l) where
-    pub lift_next : (i : ℕ) (l₀ t' l' : List ℕ) → Room n whole o keys t₀ l₀ → c < whole → i ≡ place_of (get_or (in_order o keys) c 0)
-        → LiftsOne n i m.destination c t l t' l' → Lifting n whole (c + 1) m o keys t₀ t' l'
+  module _ (c : ℕ) (t l : List ℕ) (s : Lifting n whole c m o t₀ t l) where
+    pub lift_next : (i : ℕ) (l₀ t' l' : List ℕ) → Room n whole o t₀ l₀ → c < whole → i ≡ place_of (get_or (in_order o) c 0)
+        → LiftsOne n i m.destination c t l t' l' → Lifting n whole (c + 1) m o t₀ t' l'
     unfolding vacate_all picked
     lift_next i l₀ t' l' room h ei one =
         let k : ℕ = get_or going c 0 in
         let next : List ℕ = drop (suc c) going in
-        let long : length going ≡ whole = simp length-take (omega (arith, length_in_order o keys room.order room.memory)) in
+        let long : length going ≡ whole = simp length-take (omega (arith, length_in_order o)) in
         let cons : drop c going ≡ k ∷ next = drop-cons going c 0 (rw long h) in
-        let place : place_of k ≡ i = ap place_of (get_or-take whole (in_order o keys) c 0 h) ∙ sym ei in
+        let place : place_of k ≡ i = ap place_of (get_or-take whole (in_order o) c 0 h) ∙ sym ei in
         let ps : pieces_of n t' ≡ vacate_at i (pieces_of n t) = put_pieces n i t t' (vacated (piece_in n t i)) one.stands in
         let vacates : vacate_all next (vacate_at (place_of k) (pieces_of n t)) ≡ vacate_all going (pieces_of n t₀) = rw cons at s.vacates in
         let picks : pieces_of c l ++ (hand (piece_in n t (place_of k)) ∷ map hand (picked next (vacate_at (place_of k) (pieces_of n t))))
@@ -62,7 +62,7 @@ module _ (n whole : ℕ) (m : Move) (o : Order) (keys t₀ : List ℕ) where
           picks = rw (more, add-one, ps, append_assoc) (rw place at picks);
         }
 
-    pub lift_end : c ≤ whole → whole ≤ c → Lifts n whole m o keys t₀ t l
+    pub lift_end : c ≤ whole → whole ≤ c → Lifts n whole m o t₀ t l
     unfolding vacate_all picked
     lift_end h g =
         let e : c ≡ whole = omega arith in

@@ -11,7 +11,7 @@ use Rattle.picking.specs.declared.plan.Plan.{Plan}
 use Rattle.moving.specs.declared.Applied.{Applied}
 use Rattle.taking.specs.declared.Move.{Move}
 use Rattle.taking.specs.Taking.{Taken, handed, taken}
-use Rattle.picking.specs.Plan.{at_key, in_order, halt, plan_from, splits, lacking, taken_by, planned}
+use Rattle.picking.specs.Plan.{at_key, in_order, count_of, halt, plan_from, splits, lacking, taken_by, planned}
 use Rattle.moving.specs.Applied.{full, accepted, applied, table_left, lifted_places, Ready, Moves}
 use Rattle.picking.specs.Ordering.{Ordered}
 use Rattle.moving.specs.Parts.{Room, Applicable, Applies}
@@ -49,19 +49,19 @@ by_next f a h c ks = go (ltb c (length ks)) refl
     go false e = ap f (drop_of_length-le ks {i = c} (ltb-false _ _ e))
 
 module _ {n places rule : ℕ} {m : Move} {t : List ℕ} (ready : Ready n places m t)
-    {o : Order} {keys : List ℕ} (ordered : Ordered n rule m.source o t keys)
-    {r : Plan} (plan : r ≡ plan_from 0 (in_order o keys) m.weight (pieces_of n t)) where
+    {o : Order} (ordered : Ordered n rule m.source o t)
+    {r : Plan} (plan : r ≡ plan_from 0 (in_order o) m.weight (pieces_of n t)) where
   abbrev ps : List Piece
   ps = pieces_of n t
 
   abbrev ks : List ℕ
-  ks = in_order o keys
+  ks = in_order o
 
   abbrev taking : Taken
   taking = taken rule m ps
 
-  length_order : length ks ≡ o.count
-  length_order = length_in_order o keys (omega (arith, ordered.most, ready.pieces, ready.most)) ordered.memory
+  length_order : length ks ≡ count_of o
+  length_order = length_in_order o
 
   by_plan : taking ≡ taken_by ks ps r
   unfolding planned
@@ -69,7 +69,7 @@ module _ {n places rule : ℕ} {m : Move} {t : List ℕ} (ready : Ready n places
       let h : length ps ≤ most_places = rw length_pieces (omega (arith, ready.pieces, ready.most)) in
       taken_planned rule m ps ready.source h ready.present ∙ rw (plan, ordered.order)
 
-  whole_most : r.whole ≤ o.count
+  whole_most : r.whole ≤ count_of o
   whole_most = rw plan (omega (arith, length_order, plan_most ks 0 m.weight ps))
 
   rest : length taking.rest + taking.whole ≡ n
@@ -98,7 +98,7 @@ module _ {n places rule : ℕ} {m : Move} {t : List ℕ} (ready : Ready n places
       free : full places m taking ≡ false
       free = due ∙ sym is ∙ e
 
-      pub move_ready : (l : List ℕ) → 4 * lifted_places ≤ length l → Room n r.whole o keys t l × Applicable n m o r keys t
+      pub move_ready : (l : List ℕ) → 4 * lifted_places ≤ length l → Room n r.whole o t l × Applicable n m o r t
       move_ready l above =
           let h : length (handed m taking) ≤ places = ltb-false _ _ free in
           let f : 4 * length (handed m taking) ≤ length t = omega (arith, ready.room) in (
@@ -107,13 +107,12 @@ module _ {n places rule : ℕ} {m : Move} {t : List ℕ} (ready : Ready n places
               pieces = omega (arith, ready.pieces, ready.room);
               goes = whole_most;
               order = omega (arith, ordered.most, ready.pieces, ready.most);
-              memory = ordered.memory;
               above = above;
             },
             record { rest = rw by_plan at rest; fits = rw by_plan at f },
           )
 
-      pub move_applied : {t' : List ℕ} {a : Applied} → Applies n m o r keys t t' a
+      pub move_applied : {t' : List ℕ} {a : Applied} → Applies n m o r t t' a
           → Moves n places rule m t t' (Some a)
       unfolding applied table_left
       move_applied {a = a} done =

@@ -9,7 +9,7 @@ use Rattle.taking.specs.declared.Move.{Move}
 use Rattle.picking.specs.declared.selection.Order.{Order}
 use Rattle.picking.specs.declared.plan.Plan.{Plan}
 use Rattle.taking.specs.Taking.{newborn}
-use Rattle.picking.specs.Plan.{place_of, in_order, part, lacking}
+use Rattle.picking.specs.Plan.{place_of, in_order, count_of, part, lacking}
 use Rattle.picking.proofs.Keys.{length_in_order}
 use Rattle.picking.proofs.Planned.{reduced_zero}
 use Rattle.moving.specs.Applied.{lifted_places}
@@ -20,14 +20,14 @@ nothing_more : (m : Move) (ks : List ℕ) (ps : List Piece)
 nothing_more m [] ps = refl
 nothing_more m (k ∷ ks) ps = refl
 
-module _ (n : ℕ) (m : Move) (o : Order) (r : Plan) (keys t l : List ℕ) (room : Room n r.whole o keys t l) where
+module _ (n : ℕ) (m : Move) (o : Order) (r : Plan) (t l : List ℕ) (room : Room n r.whole o t l) where
   abbrev ks : List ℕ
-  ks = in_order o keys
+  ks = in_order o
 
-  long : length ks ≡ o.count
-  long = length_in_order o keys room.order room.memory
+  long : length ks ≡ count_of o
+  long = length_in_order o
 
-  pub remains_none : r.left ≡ 0 → Follows n m o r keys t l t l r.whole
+  pub remains_none : r.left ≡ 0 → Follows n m o r t l t l r.whole
   remains_none e = record {
     stands = rw (e, reduced_zero) (formed n t room.pieces);
     goes = rw (e, nothing_more, append-nil);
@@ -35,8 +35,8 @@ module _ (n : ℕ) (m : Move) (o : Order) (r : Plan) (keys t l : List ℕ) (room
   }
 
   module _ (more : r.left ≡ 0 → ⊥) (l' : List ℕ) where
-    pub remains_split : (i : ℕ) (t' : List ℕ) → r.whole < o.count → i ≡ place_of (get_or ks r.whole 0)
-        → Splits n i m.destination r.left r.whole t l t' l' → Follows n m o r keys t l t' l' (r.whole + 1)
+    pub remains_split : (i : ℕ) (t' : List ℕ) → r.whole < count_of o → i ≡ place_of (get_or ks r.whole 0)
+        → Splits n i m.destination r.left r.whole t l t' l' → Follows n m o r t l t' l' (r.whole + 1)
     remains_split i t' h ei split =
         let cons : drop r.whole ks ≡ get_or ks r.whole 0 ∷ drop (suc r.whole) ks = drop-cons ks r.whole 0 (rw long h) in
         record {
@@ -45,8 +45,8 @@ module _ (n : ℕ) (m : Move) (o : Order) (r : Plan) (keys t l : List ℕ) (room
           most = omega arith;
         }
 
-    pub remains_born : o.count ≤ r.whole → l' ≡ put_in lifted_places r.whole (newborn m r.left) l
-        → Follows n m o r keys t l t l' (r.whole + 1)
+    pub remains_born : count_of o ≤ r.whole → l' ≡ put_in lifted_places r.whole (newborn m r.left) l
+        → Follows n m o r t l t l' (r.whole + 1)
     remains_born h e =
         let spent : drop r.whole ks ≡ [] = drop_of_length-le ks {i = r.whole} (rw long h) in
         record {

@@ -1,12 +1,13 @@
 // A plan is applied: what goes is lifted out of the table, the rest closes up, and what was lifted is put at the end.
 ghost use Rattle.std.specs.Prelude.{◌≡◌, ◌<◌, ◌≤◌, ◌-◌, ◌*◌, length};
 ghost use Rattle.table.specs.Table.{most_places};
+ghost use Rattle.picking.specs.Plan.{count_of};
 ghost use Rattle.moving.specs.Applied.{lifted_places};
 ghost use Rattle.moving.specs.Parts.{Room, LiftsOne, Lifts, Splits, Follows, Gathers, plan_answer, Applicable, Applies};
 
 use super::{Applied, LIFTED_PLACES};
 use picking::plan::Plan;
-use picking::selection::{Order, nth};
+use picking::selection::Order;
 use table::{Piece, closing};
 use taking::Move;
 
@@ -21,20 +22,12 @@ fn lift_one(table: &mut [u32], n: usize, i: usize, destination: u32, lifted: &mu
 }
 
 // The pieces that go whole are lifted.
-fn lift(
-    table: &mut [u32],
-    n: usize,
-    keys: &[u64],
-    order: Order,
-    whole: usize,
-    m: Move,
-    lifted: &mut [u32],
-)
-    requires { Room n whole order keys.now table.old lifted.old }
-    ensures { Lifts n whole m order keys.now table.old table.new lifted.new }
+fn lift(table: &mut [u32], n: usize, order: Order, whole: usize, m: Move, lifted: &mut [u32])
+    requires { Room n whole order table.old lifted.old }
+    ensures { Lifts n whole m order.entry table.old table.new lifted.new }
 {
     for c in 0..whole {
-        lift_one(table, n, nth(keys, order, c), m.destination, lifted, c);
+        lift_one(table, n, order.nth(c), m.destination, lifted, c);
     }
 }
 
@@ -53,7 +46,12 @@ fn split_one(
 {
     let p = table::piece_or_default(table, n, i);
     let rest = p.weight.saturating_sub(weight);
-    table::put_piece(lifted, LIFTED_PLACES, c, p.of_weight(weight).hand_to(destination));
+    table::put_piece(
+        lifted,
+        LIFTED_PLACES,
+        c,
+        p.of_weight(weight).hand_to(destination),
+    );
     table::put_if_there(table, n, i, p.of_weight(rest));
 }
 
@@ -61,22 +59,21 @@ fn split_one(
 fn put_remainder(
     table: &mut [u32],
     n: usize,
-    keys: &[u64],
     order: Order,
     plan: Plan,
     m: Move,
     lifted: &mut [u32],
 ) -> usize
-    requires { Room n plan.whole order keys.now table.old lifted.old }
-    ensures { Follows n m order plan keys.now table.old lifted.old
+    requires { Room n plan.whole order table.old lifted.old }
+    ensures { Follows n m order.entry plan table.old lifted.old
         table.new lifted.new result }
 {
     let Plan { whole, left } = plan;
     if left == 0 {
         return whole;
     }
-    if whole < order.count {
-        let i = nth(keys, order, whole);
+    if whole < order.keys.len() {
+        let i = order.nth(whole);
         split_one(table, n, i, m.destination, left, lifted, whole);
         return whole + 1;
     }
@@ -94,25 +91,24 @@ fn put_remainder(
 fn gather(
     table: &mut [u32],
     n: usize,
-    keys: &[u64],
     order: Order,
     plan: Plan,
     m: Move,
     lifted: &mut [u32],
 ) -> usize
-    requires { Room n plan.whole order keys.now table.old lifted.old }
-    ensures { Gathers n m order plan keys.now table.old table.new lifted.new result }
+    requires { Room n plan.whole order table.old lifted.old }
+    ensures { Gathers n m order.entry plan table.old table.new lifted.new result }
 {
-    lift(table, n, keys, order, plan.whole, m, lifted);
-    put_remainder(table, n, keys, order, plan, m, lifted)
+    lift(table, n, order, plan.whole, m, lifted);
+    put_remainder(table, n, order, plan, m, lifted)
 }
 
 // The answer where the plan was applied and leaves so many pieces.
 fn answer(order: Order, plan: Plan, count: usize) -> Applied
-    requires { (plan.whole ≤ order.count) × (order.count ≤ most_places) }
-    ensures { result ≡ plan_answer order plan count }
+    requires { (plan.whole ≤ count_of order) × (count_of order ≤ most_places) }
+    ensures { result ≡ plan_answer order.entry plan count }
 {
-    let splits = plan.whole < order.count;
+    let splits = plan.whole < order.keys.len();
     Applied {
         whole: plan.whole as u32,
         split: if splits { plan.left.min(1) } else { 0 },
@@ -125,16 +121,15 @@ fn answer(order: Order, plan: Plan, count: usize) -> Applied
 pub fn apply(
     table: &mut [u32],
     n: usize,
-    keys: &[u64],
     order: Order,
     plan: Plan,
     m: Move,
     lifted: &mut [u32],
 ) -> Applied
-    requires { Room n plan.whole order keys.now table.old lifted.old × Applicable n m order plan keys.now table.old }
-    ensures { Applies n m order plan keys.now table.old table.new result }
+    requires { Room n plan.whole order table.old lifted.old × Applicable n m order plan table.old }
+    ensures { Applies n m order.entry plan table.old table.new result }
 {
-    let g = gather(table, n, keys, order, plan, m, lifted);
+    let g = gather(table, n, order, plan, m, lifted);
     let count = closing::settle(table, n, plan.whole, lifted, g);
     answer(order, plan, count)
 }

@@ -71,9 +71,9 @@ pub fn move_pieces(
         &mut work.keys,
         &mut work.spare,
     );
-    let plan = picking::plan::plan_of(table, n, &work.keys, order, m.weight);
+    let plan = picking::plan::plan_of(table, n, order, m.weight);
     if plan.is_full(n, places) {
         return None;
     }
-    Some(apply::apply(table, n, &work.keys, order, plan, m, &mut work.lifted))
+    Some(apply::apply(table, n, order, plan, m, &mut work.lifted))
 }

@@ -3,7 +3,7 @@
 #![tactic(auto)]
 
 // Weight that is to go from a holder to another. What the source lacks is born there, with this birth minute.
-#[derive(Clone, Copy)]
+#[derive(Clone, Copy, PartialEq, Eq, Debug)]
 pub struct Move {
     pub source: u32,
     pub destination: u32,

@@ -1,7 +1,6 @@
 -- `apply::lift` meets its contract. The invariant is `Lifting`: c keys are behind, and the rest of them completes the work.
-use Rattle.std.proofs.Common.{◌≡◌, ◌-◌, ◌≤◌, length}
 use Rattle.moving.proofs.Lifting.{Lifting}
 use Rattle.moving.proofs.apply.lift.Given as goal
 
 abbrev pub invariant-loop-c : goal.invariant-loop-c
-invariant-loop-c l = Lifting l.n l.whole l.c l.m l.order l.keys l.initial.table l.table l.lifted
+invariant-loop-c l = Lifting l.n l.whole l.c l.m l.order l.initial.table l.table l.lifted

@@ -7,4 +7,4 @@ use Rattle.picking.proofs.plan.plan_of.Given as goal
 
 abbrev pub invariant-loop-c : goal.invariant-loop-c
 invariant-loop-c l =
-    plan_from l.c (drop l.c (in_order l.order l.keys)) l.left (pieces_of l.n l.table) ≡ plan_from 0 (in_order l.order l.keys) l.weight (pieces_of l.n l.table)
+    plan_from l.c (drop l.c (in_order l.order)) l.left (pieces_of l.n l.table) ≡ plan_from 0 (in_order l.order) l.weight (pieces_of l.n l.table)
