@@ -108,11 +108,15 @@ fn answer(order: Order, plan: Plan, count: usize) -> Applied
     requires { (plan.whole ≤ count_of order) × (count_of order ≤ most_places) }
     ensures { result ≡ plan_answer order.entry plan count }
 {
-    let splits = plan.whole < order.keys.len();
+    let (split, born) = if plan.whole < order.keys.len() {
+        (plan.left.min(1), 0)
+    } else {
+        (0, plan.left)
+    };
     Applied {
         whole: plan.whole as u32,
-        split: if splits { plan.left.min(1) } else { 0 },
-        born: if splits { 0 } else { plan.left },
+        split,
+        born,
         count,
     }
 }
