@@ -1,13 +1,13 @@
 -- Laws of closing up. Which pieces stay; then the loop: the first j pieces have their places and those from i on are to come; then what
 -- is copied behind them.
 -- Assumes nothing.
-use Rattle.std.proofs.Common.{◌≡◌, refl, sym, ap, ◌∙◌, Bool, true, false, cond, List, [], ◌∷◌, ◌++◌, append_assoc, append-nil, ℕ, suc, ◌+◌, ◌-◌, ◌*◌, ◌≤◌, ◌<◌, add-one, arith, eqb, length, take, drop, drop-drop, drop_of_length-le, length-append, drop-cons, drop-set-lt, ne_eqb}
+use Rattle.std.proofs.Common.{◌≡◌, refl, sym, ap, ◌∙◌, ◌≢◌, Bool, true, false, cond, List, [], ◌∷◌, ◌++◌, append_assoc, append-nil, ℕ, suc, ◌+◌, ◌-◌, ◌*◌, ◌≤◌, ◌<◌, add-one, arith, eqb, length, take, drop, drop-drop, drop_of_length-le, length-append, eq-eqb, drop-cons, drop-set-lt, ne_eqb}
 use borrow.Rule.Slice.PartMut.{put_mid}
 use Rattle.table.specs.declared.Piece.{Piece}
 use Rattle.table.specs.Pieces.{no_piece, All, done, also}
 use Rattle.table.specs.Table.{pieces_of, lay, over, piece_in, put_in}
 use Rattle.table.specs.Closing.{VACANT, Present, stay, settled, Settling, Closes}
-use Rattle.table.proofs.Table.{length_pieces, same_behind, put_pieces, put_behind, put_more, put_same, flat_pieces, flat_append}
+use Rattle.table.proofs.Table.{length_pieces, same_behind, put_pieces, put_behind, put_more, flat_pieces, flat_append}
 
 pub stay_append : (xs ys : List Piece) → stay (xs ++ ys) ≡ stay xs ++ stay ys
 unfolding stay
@@ -44,45 +44,43 @@ stay_same (p ∷ ps) e = go (eqb p.holder VACANT) e (stay_same ps)
     go true e i = absurd (omega (arith, stay_few ps))
     go false e i = ap (λ (l : List Piece). p ∷ l) (i (omega arith))
 
--- the pieces close up
-pub close_start : (n : ℕ) (t : List ℕ) → pieces_of 0 t ++ stay (drop 0 (pieces_of n t)) ≡ stay (pieces_of n t)
+-- The pieces close up: the first j of t, and those that stay of the pieces from place i on, are all that stay of t₀.
+pub record Closing (n i j : ℕ) (t₀ t : List ℕ) : Type 0 where
+  pub stands : pieces_of j t ++ stay (drop i (pieces_of n t)) ≡ stay (pieces_of n t₀)
+  pub most : j ≤ i
+  pub behind : drop (4 * n) t ≡ drop (4 * n) t₀
+
+pub close_start : (n : ℕ) (t : List ℕ) → Closing n 0 0 t t
 unfolding pieces_of
-close_start n t = refl
+close_start n t = record { stands = refl; most = omega arith; behind = refl }
 
-module _ (n i j : ℕ) (t : List ℕ) where
-  pub close_next : (j' : ℕ) (t' : List ℕ) (z : List Piece) (p : Piece) → i < n → j ≤ i → p ≡ piece_in n t i → t' ≡ put_in n j p t
-      → j' ≡ cond (eqb p.holder VACANT) j (j + 1) → pieces_of j t ++ stay (drop i (pieces_of n t)) ≡ z
-      → pieces_of j' t' ++ stay (drop (i + 1) (pieces_of n t')) ≡ z
+module _ {n i j : ℕ} {t₀ t : List ℕ} (s : Closing n i j t₀ t) where
+  module _ {p : Piece} (h : i < n) (ep : p ≡ piece_in n t i) where
+    here : drop i (pieces_of n t) ≡ p ∷ drop (suc i) (pieces_of n t)
+    here = drop-cons (pieces_of n t) i no_piece (rw length_pieces h) ∙ rw ep
+
+    pub close_gone : p.holder ≡ VACANT → Closing n (i + 1) j t₀ t
+    unfolding stay
+    close_gone e = record { stands = rw add-one (rw (here, eq-eqb _ _ e) at s.stands); most = omega arith; behind = s.behind }
+
+    pub close_kept : {t' : List ℕ} → p.holder ≢ VACANT → t' ≡ put_in n j p t → Closing n (i + 1) (j + 1) t₀ t'
+    unfolding stay
+    close_kept {t'} e et =
+        let rest : drop (suc i) (pieces_of n t') ≡ drop (suc i) (pieces_of n t) =
+        ap (drop (suc i)) (put_pieces n j t t' p et) ∙ drop-set-lt (suc i) (pieces_of n t) j p (omega arith) in
+        record {
+          stands = rw (put_more n j t t' p et (omega arith), add-one i, rest, append_assoc) (rw (here, ne_eqb _ _ e) at s.stands);
+          most = omega arith;
+          behind = put_behind n j t t' p et ∙ s.behind;
+        }
+
+  pub close_end : n ≤ i → i ≤ n → Closes n t₀ t j
   unfolding stay
-  close_next j' t' z p h hj ep et ej e =
-      let g : i < length (pieces_of n t) = rw length_pieces h in
-      let f : pieces_of j t ++ stay (p ∷ drop (suc i) (pieces_of n t)) ≡ z = rw ep (rw (drop-cons (pieces_of n t) i no_piece g) at e) in
-      let r : drop (suc i) (pieces_of n t') ≡ drop (suc i) (pieces_of n t) =
-      ap (drop (suc i)) (put_pieces n j t t' p et) ∙ drop-set-lt (suc i) (pieces_of n t) j p (omega arith) in
-      rw (ej, add-one i, r) (go (eqb p.holder VACANT) f)
-    where
-      more : List Piece
-      more = stay (drop (suc i) (pieces_of n t))
-
-      go : (c : Bool) → pieces_of j t ++ cond c more (p ∷ more) ≡ z → pieces_of (cond c j (j + 1)) t' ++ more ≡ z
-      go true f = rw (put_same n j t t' p et (omega arith)) f
-      go false f = rw (put_more n j t t' p et (omega arith), append_assoc) f
-
-  pub close_behind : (t₀ t' : List ℕ) (p : Piece) → t' ≡ put_in n j p t → drop (4 * n) t ≡ drop (4 * n) t₀ → drop (4 * n) t' ≡ drop (4 * n) t₀
-  close_behind t₀ t' p et e = put_behind n j t t' p et ∙ e
-
-  pub close_end : (t₀ : List ℕ) → n ≤ i → pieces_of j t ++ stay (drop i (pieces_of n t)) ≡ stay (pieces_of n t₀) → j ≤ i → i ≤ n
-      → drop (4 * n) t ≡ drop (4 * n) t₀ → Closes n t₀ t j
-  unfolding stay
-  close_end t₀ h e hj hi eb = record {
-    stands = sym (append-nil (pieces_of j t)) ∙ (rw (drop_of_length-le (pieces_of n t) {i = i} (rw length_pieces h)) at e);
+  close_end h g = record {
+    stands = sym (append-nil (pieces_of j t)) ∙ (rw (drop_of_length-le (pieces_of n t) {i = i} (rw length_pieces h)) at s.stands);
     most = omega arith;
-    behind = eb;
+    behind = s.behind;
   }
-
-pub next_most : (j j' i : ℕ) (c : Bool) → j' ≡ cond c j (j + 1) → j ≤ i → j' ≤ i + 1
-next_most j j' i true e h = omega arith
-next_most j j' i false e h = omega arith
 
 -- none has gone
 pub no_gaps : (n gone : ℕ) (t : List ℕ) → length (stay (pieces_of n t)) + gone ≡ n → gone ≡ 0 → Closes n t t n

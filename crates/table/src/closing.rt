@@ -16,8 +16,8 @@ fn close_up(table: &mut [u32], n: usize) -> usize
     let mut j = 0;
     for i in 0..n {
         let p = piece_at(table, n, i);
-        put_piece(table, n, j, p);
         if p.holder != VACANT {
+            put_piece(table, n, j, p);
             j += 1;
         }
     }

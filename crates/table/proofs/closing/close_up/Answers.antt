@@ -1,19 +1,18 @@
 -- `closing::close_up`: what its invariant leaves to show.
-use Rattle.std.proofs.Common.{◌≡◌, cond, ◌+◌, eqb, arith, rules}
-use Rattle.std.proofs.lemmas.Bool.Decides.{nat_tests}
-use Rattle.table.specs.Closing.{VACANT}
-use Rattle.table.proofs.ClosingUp.{close_start, close_next, next_most, close_behind, close_end}
+use Rattle.std.proofs.Common.{arith}
+use Rattle.table.proofs.ClosingUp.{close_start, close_gone, close_kept, close_end}
 use Rattle.table.proofs.closing.close_up.Goals as goal
 use Rattle.table.proofs.closing.close_up.Goals.{then-p, else-p}
 
 pub loop-i-init : goal.loop-i-init
-loop-i-init c = (search (rules, close_start), search rules, search rules)
+loop-i-init c = close_start _ _
 
 pub loop-i-preserved : goal.loop-i-preserved
 loop-i-preserved c =
-    let e : c.if-p.j ≡ cond (eqb c.piece_at-p.result.holder VACANT) c.loop-i.j (c.loop-i.j + 1) =
-    elim c.if-p.branch [ then-p w ↦ grind (arith, nat_tests) | else-p w ↦ grind (arith, nat_tests) ] in
-    (search (rules, close_next), search (rules, next_most), search (rules, close_behind))
+    elim c.if-p.branch [
+      | then-p w ↦ rw (w.j-is, w.table-is) (close_kept c.loop-i.invariant c.loop-i-test.true c.piece_at-p.ensures w.if-p.true w.put_piece.ensures)
+      | else-p w ↦ rw (w.j-is, w.table-is) (close_gone c.loop-i.invariant c.loop-i-test.true c.piece_at-p.ensures w.if-p.false)
+    ]
 
 pub returns : goal.returns
-returns c = search (rules, close_end)
+returns c = close_end c.loop-i.invariant (omega arith) (omega arith)
