@@ -1,10 +1,10 @@
 -- The pieces that go whole are lifted, one after the other: c keys of `gone` are behind, and what the rest of them vacates and picks
 -- completes what all of them do.
 -- Assumes nothing.
-use Rattle.std.proofs.Common.{◌≡◌, refl, sym, ap, ◌∙◌, List, [], ◌∷◌, ◌++◌, append_assoc, append-nil, map, ℕ, suc, ◌+◌, ◌-◌, ◌*◌, ◌≤◌, ◌<◌, add-one, arith, length, get_or, drop, length-take, drop_of_length-le, drop-cons, get_or-take}
+use Rattle.std.proofs.Common.{◌≡◌, refl, sym, ap, ◌∙◌, List, [], ◌∷◌, ◌++◌, append_assoc, append-nil, map, ℕ, suc, ◌+◌, ◌*◌, ◌≤◌, ◌<◌, add-one, arith, length, get_or, drop, length-take, drop_of_length-le, drop-cons, get_or-take}
 use Rattle.table.specs.declared.Piece.{Piece}
-use Rattle.table.specs.Pieces.{of_weight, hand_to}
-use Rattle.table.specs.Table.{pieces_of, over, piece_in, put_in}
+use Rattle.table.specs.Pieces.{hand_to}
+use Rattle.table.specs.Table.{pieces_of, over, piece_in}
 use Rattle.table.specs.Closing.{vacated}
 use Rattle.table.proofs.Table.{length_pieces, rest_over, formed, put_pieces, put_more}
 use Rattle.taking.specs.declared.Move.{Move}
@@ -12,17 +12,7 @@ use Rattle.picking.specs.declared.selection.Order.{Order}
 use Rattle.picking.specs.Plan.{place_of, in_order, vacate_at, vacate_all, picked}
 use Rattle.picking.proofs.Keys.{length_in_order}
 use Rattle.moving.specs.Applied.{lifted_places}
-use Rattle.moving.specs.Parts.{Room, gone, LiftsOne, Lifts, Splits}
-
--- one piece, lifted or split
-module _ (n i d c : ℕ) (t t' l l' : List ℕ) (p : Piece) (e : p ≡ piece_in n t i) where
-  pub lifted_one : (g h : Piece) → g ≡ hand_to d p → l' ≡ put_in lifted_places c g l → h ≡ vacated p → t' ≡ put_in n i h t
-      → LiftsOne n i d c t l t' l'
-  lifted_one g h eg el eh et = record { stands = et ∙ rw (eh, e); goes = el ∙ rw (eg, e) }
-
-  pub split_off : (w v : ℕ) (a g h : Piece) → v ≡ p.weight - w → a ≡ of_weight w p → g ≡ hand_to d a → l' ≡ put_in lifted_places c g l
-      → h ≡ of_weight v p → t' ≡ put_in n i h t → Splits n i d w c t l t' l'
-  split_off w v a g h ev ea eg el eh et = record { stands = et ∙ rw (eh, ev, e); goes = el ∙ rw (eg, ea, e) }
+use Rattle.moving.specs.Parts.{Room, gone, LiftsOne, Lifts}
 
 pub record Lifting (n whole c : ℕ) (m : Move) (o : Order) (t₀ t l : List ℕ) : Type 0 where
   pub form : t ≡ over n (pieces_of n t) t₀

@@ -4,7 +4,7 @@
 use Rattle.std.proofs.Common.{ℕ, zero, suc, ◌+◌, ◌-◌, ◌*◌, ◌≤◌, ◌<◌, not-suc-le-zero, le_of_suc-le-suc, add-zero, arith, ◌≡◌, refl, sym, ap, ◌∙◌, List, [], ◌∷◌, ◌++◌, add-one, length, get_or, take, drop, set, length-set, drop-drop, get_or-drop, take-suc-set, take_at}
 use native.Mathlib.Numerals.{towards_suc}
 use lib.ListN.{get_or-eq_default}
-use lib.Seq.{sets, take-set-le, set_out}
+use lib.Seq.{sets, set_out}
 use Rattle.table.specs.declared.Piece.{Piece}
 use Rattle.table.specs.Pieces.{no_piece}
 use Rattle.table.specs.Table.{pieces_of, flat, first_piece, over, piece_in, put_in, places_of}
@@ -145,10 +145,6 @@ module _ (n c : ℕ) (t t' : List ℕ) (p : Piece) (e : t' ≡ put_in n c p t) w
   put_more h =
       let g : c < length (pieces_of n t) = rw length_pieces h in
       rw add-one (sym (pieces_take (suc c) n t' h) ∙ rw put_pieces (take-suc-set (pieces_of n t) c p g ∙ rw (pieces_take c n t (omega arith))))
-
-  pub put_same : c < n → pieces_of c t' ≡ pieces_of c t
-  put_same h =
-      sym (pieces_take c n t' (omega arith)) ∙ rw put_pieces (take-set-le c (pieces_of n t) c p (omega arith) ∙ pieces_take c n t (omega arith))
 
 -- as many pieces as places lie in the table
 pub places_fit : (t : List ℕ) (n m : ℕ) → m ≡ places_of t → n ≤ m → 4 * n ≤ length t

@@ -1,4 +1,5 @@
-// The pieces of a book, in a lent table of 32-bit numbers: four for a piece, in order of receipt.
+// The pieces of a book, in a lent table of 32-bit numbers: four for a piece, in order of receipt. How many they are stands beside the
+// table, since a head holds it: the C interface lends both as they are.
 #![tactic(auto)]
 
 ghost use Rattle.std.specs.Prelude.{◌≡◌, ◌<◌, ◌≤◌, ◌*◌, length};
