@@ -1,5 +1,5 @@
 -- A vector's sheet is that of the numbers read, and the part that is listed is the sheet. Assumes nothing.
-use Rattle.std.proofs.Common.{ℕ, zero, suc, ◌+◌, ◌-◌, ◌/◌, ◌≤◌, ◌<◌, min, add-zero, add-one, arith, ◌≡◌, refl, ap, ◌∙◌, List, [], ◌∷◌, length, get_or, take, drop, replicate, length-take, length-drop, drop_of_length-le, drop-cons, eq-eqb, ne_eqb}
+use Rattle.std.proofs.Common.{ℕ, zero, suc, ◌+◌, ◌-◌, ◌/◌, ◌≤◌, min, arith, ◌≡◌, refl, ap, ◌∙◌, List, [], ◌∷◌, length, get_or, take, drop, replicate, length-take, length-drop, eq-eqb, ne_eqb}
 use native.Mathlib.Nat.{sub-zero, zero-min, min-zero, suc-min-suc, min_comm, min-le_right}
 use lib.ListN.{length-replicate}
 use lib.Seq.{sets}
@@ -8,7 +8,7 @@ use Rattle.fields.specs.Movements.{given_size}
 use Rattle.writing.specs.Writing.{written}
 use Rattle.listing.specs.Listing.{sheet_listing}
 use Rattle.text.specs.Numbers.{numbers_in}
-use Rattle.vectors.specs.Vectors.{vessels, names, numbers_room, table_room, sheet_room, VectorWritten, vector_listing, heading_line, calls_listing, heading, calls_mark, shown, newline, line_of}
+use Rattle.vectors.specs.Vectors.{vessels, names, numbers_room, table_room, sheet_room, VectorWritten, vector_listing, heading_line, calls_listing, heading, calls_mark, shown}
 use Rattle.text.proofs.NumberLaws.{sets_behind, first_put}
 
 -- the rule and the numbers behind it, of those read into so much memory
