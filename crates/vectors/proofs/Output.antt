@@ -56,7 +56,7 @@ carried_shown rule calls r t answers room w = go (carry_number rule vessels call
     go zero e = let d = w.done e in rw (e, d.2, d.3)
     go (suc n) e = let d = w.refused (λ z. omega (arith, e, z)) in rw (e, d.2, d.3)
 
-pub calls_shown : (text numbers : List ℕ) (count from : ℕ) → count ≡ min (length (numbers_in text)) (1 + calls_room) → from ≡ min 1 count
+pub calls_shown : (text numbers : List ℕ) (count from : ℕ) → count ≡ min (length (numbers_in text)) (1 + calls_room) → from ≡ min count 1
     → numbers ≡ sets (replicate (1 + calls_room) 0) 0 (numbers_in text) → (r : Opened) (t answers room : List ℕ)
     → CarriesOut (get_or numbers 0 0) vessels (take (count - from) (drop from numbers)) (replicate table_room 0) (replicate answers_room unwritten)
     (replicate report_room unwritten) r t answers room

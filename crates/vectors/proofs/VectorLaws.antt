@@ -1,6 +1,6 @@
--- A vector's sheet is that of the numbers read, and the part that is listed is the sheet; and where a line ends. Assumes nothing.
-use Rattle.std.proofs.Common.{ℕ, zero, suc, ◌+◌, ◌-◌, ◌/◌, ◌≤◌, ◌<◌, min, add-zero, add-one, arith, ◌≡◌, refl, ap, ◌∙◌, List, [], ◌∷◌, length, get_or, take, drop, replicate, length-take, length-drop, drop_of_length-le, drop-cons, eq-eqb, ne_eqb}
-use native.Mathlib.Nat.{sub-zero, zero-min, suc-min-suc, min_comm, min-le_right}
+-- A vector's sheet is that of the numbers read, and the part that is listed is the sheet. Assumes nothing.
+use Rattle.std.proofs.Common.{ℕ, zero, suc, ◌+◌, ◌-◌, ◌/◌, ◌≤◌, min, arith, ◌≡◌, refl, ap, ◌∙◌, List, [], ◌∷◌, length, get_or, take, drop, replicate, length-take, length-drop, eq-eqb, ne_eqb}
+use native.Mathlib.Nat.{sub-zero, zero-min, min-zero, suc-min-suc, min_comm, min-le_right}
 use lib.ListN.{length-replicate}
 use lib.Seq.{sets}
 use Rattle.fields.specs.Layout.{sheet_size}
@@ -8,7 +8,7 @@ use Rattle.fields.specs.Movements.{given_size}
 use Rattle.writing.specs.Writing.{written}
 use Rattle.listing.specs.Listing.{sheet_listing}
 use Rattle.text.specs.Numbers.{numbers_in}
-use Rattle.vectors.specs.Vectors.{vessels, names, numbers_room, table_room, sheet_room, VectorWritten, vector_listing, heading_line, calls_listing, heading, calls_mark, shown, newline, line_of}
+use Rattle.vectors.specs.Vectors.{vessels, names, numbers_room, table_room, sheet_room, VectorWritten, vector_listing, heading_line, calls_listing, heading, calls_mark, shown}
 use Rattle.text.proofs.NumberLaws.{sets_behind, first_put}
 
 -- the rule and the numbers behind it, of those read into so much memory
@@ -20,20 +20,20 @@ module _ (room : ℕ) where
   rule_read [] = refl
   rule_read (n ∷ ns) = rw (sets_behind ns (replicate room 0) n 0)
 
-  rest_read : (ns : List ℕ) → let count = min (length ns) (suc room) in take (count - min 1 count) (drop (min 1 count) (memory ns)) ≡ drop 1 (take (suc room) ns)
+  rest_read : (ns : List ℕ) → let count = min (length ns) (suc room) in take (count - min count 1) (drop (min count 1) (memory ns)) ≡ drop 1 (take (suc room) ns)
   rest_read [] = rw zero-min
   rest_read (n ∷ ns) =
       let k : List ℕ = replicate room 0 in
       let long : length k ≡ room = length-replicate {A = ℕ} room 0 in
       let less : suc (min (length ns) room) - 1 ≡ min (length ns) room = omega arith in
-      rw (suc-min-suc, suc-min-suc, zero-min, less, sets_behind ns k n 0) (rw long at (first_put ns k))
+      rw (suc-min-suc, suc-min-suc, min-zero, less, sets_behind ns k n 0) (rw long at (first_put ns k))
 
-one_less : (count : ℕ) → count - min 1 count ≡ count - 1
+one_less : (count : ℕ) → count - min count 1 ≡ count - 1
 one_less zero = refl
-one_less (suc k) = rw (suc-min-suc, zero-min)
+one_less (suc k) = rw (suc-min-suc, min-zero)
 
 -- the numbers that were read into so much memory and one more: the first, and those behind it
-module _ (room : ℕ) (text numbers : List ℕ) (count from : ℕ) (ec : count ≡ min (length (numbers_in text)) (suc room)) (ef : from ≡ min 1 count)
+module _ (room : ℕ) (text numbers : List ℕ) (count from : ℕ) (ec : count ≡ min (length (numbers_in text)) (suc room)) (ef : from ≡ min count 1)
     (en : numbers ≡ sets (replicate (suc room) 0) 0 (numbers_in text)) where
   pub rule_is : get_or numbers 0 0 ≡ get_or (take (suc room) (numbers_in text)) 0 0
   rule_is = rw en (rule_read room (numbers_in text))
@@ -50,7 +50,7 @@ module _ (room : ℕ) (text numbers : List ℕ) (count from : ℕ) (ec : count �
   fits = rw ec (min-le_right (length (numbers_in text)) (suc room))
 
 -- what is written of the numbers that were read
-pub vector_written : (text numbers : List ℕ) (count from : ℕ) → count ≡ min (length (numbers_in text)) (1 + numbers_room) → from ≡ min 1 count
+pub vector_written : (text numbers : List ℕ) (count from : ℕ) → count ≡ min (length (numbers_in text)) (1 + numbers_room) → from ≡ min count 1
     → numbers ≡ sets (replicate (1 + numbers_room) 0) 0 (numbers_in text) → (before after : List ℕ)
     → after ≡ written (get_or numbers 0 0) vessels names (take (count - from) (drop from numbers)) before
     → VectorWritten text before (sheet_size vessels ((count - from) / given_size)) after
@@ -64,15 +64,6 @@ vector_written text numbers count from ec ef en before after ea = record {
 pub vector_listed : (text sheet : List ℕ) (size : ℕ) → VectorWritten text (replicate sheet_room 0) size sheet
     → sheet_listing (take (size - 0) sheet) (replicate table_room 0) ≡ vector_listing text
 vector_listed text sheet size w = rw (sub-zero, w.after_is, w.size_is)
-
--- the first byte of a line
-pub first_none : (line : List ℕ) → length line ≡ 0 → heading ≡ get_or line 0 heading
-first_none [] e = refl
-first_none (b ∷ bs) e = absurd (omega arith)
-
-pub first_some : (line : List ℕ) → (length line ≡ 0 → ⊥) → get_or line 0 0 ≡ get_or line 0 heading
-first_some [] ne = absurd (ne refl)
-first_some (b ∷ bs) ne = refl
 
 -- what is shown of a line, by its first byte
 module _ (line : List ℕ) (first : ℕ) (e : first ≡ get_or line 0 heading) where
@@ -88,27 +79,3 @@ module _ (line : List ℕ) (first : ℕ) (e : first ≡ get_or line 0 heading) w
     pub shown_sheet : (first ≡ calls_mark → ⊥) → vector_listing line ≡ shown line
     unfolding shown
     shown_sheet h = rw (← e, ne_eqb _ _ other, ne_eqb _ _ h)
-
--- Where the search for a line's end stands: what is left of the line from here ends where the line does.
-pub record InLine (text : List ℕ) (from i : ℕ) : Type 0 where
-  pub inside : i ≤ length text
-  pub onward : from ≤ i
-  pub left : i + length (line_of (drop i text)) ≡ from + length (line_of (drop from text))
-
-pub line_start : (text : List ℕ) (from : ℕ) → from ≤ length text → InLine text from from
-line_start text from h = record { inside = h; onward = omega arith; left = refl }
-
-module _ (text : List ℕ) (from i : ℕ) (g : InLine text from i) where
-  pub line_turn : i < length text → (get_or text i 0 ≡ newline → ⊥) → InLine text from (i + 1)
-  unfolding line_of
-  line_turn h ne =
-      let e : i + suc (length (line_of (drop (suc i) text))) ≡ from + length (line_of (drop from text)) = rw (drop-cons text i 0 h, ne_eqb _ _ ne) at g.left in
-      record { inside = omega arith; onward = omega (arith, g.onward); left = rw add-one (omega (arith, e)) }
-
-  pub line_found : i < length text → get_or text i 0 ≡ newline → i ≡ from + length (line_of (drop from text))
-  unfolding line_of
-  line_found h e = rw (drop-cons text i 0 h, eq-eqb _ _ e, add-zero) at g.left
-
-  pub line_out : length text ≤ i → i ≡ from + length (line_of (drop from text))
-  unfolding line_of
-  line_out h = rw (drop_of_length-le text h, add-zero) at g.left

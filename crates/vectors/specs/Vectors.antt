@@ -128,8 +128,3 @@ unfoldable pub shown : List ℕ → List ℕ
 shown line =
     let first = get_or line 0 heading in
     cond (eqb first heading) (heading_line line) (cond (eqb first calls_mark) (calls_listing line) (vector_listing line))
-
--- the bytes of a text before its first newline
-unfoldable pub line_of : List ℕ → List ℕ
-line_of [] = []
-line_of (b ∷ bs) = cond (eqb b newline) [] (b ∷ line_of bs)

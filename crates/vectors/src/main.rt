@@ -3,9 +3,9 @@
 // 01's, K1 to K10; the others tell apart what those can't.
 #![tactic(auto)]
 
-ghost use Rattle.std.specs.Prelude.{◌≡◌, ◌+◌, ◌≤◌, min, length, get_or, drop, OnOk};
+ghost use Rattle.std.specs.Prelude.{OnOk};
 ghost use Rattle.std.specs.Io.KnownBytes.{Appends};
-ghost use Rattle.vectors.specs.Vectors.{heading, line_of, heading_line, VectorWritten, vector_listing, calls_listing, numbers_line, shown};
+ghost use Rattle.vectors.specs.Vectors.{heading_line, VectorWritten, vector_listing, calls_listing, numbers_line, shown};
 
 use fields::layout::{ENTRY_SIZE, GIVEN_SIZE, HEADER_SIZE, NAME_SIZE};
 use input::read_full;
@@ -29,23 +29,13 @@ const CALLS: usize = 13; // of a list at most
 
 const UNWRITTEN: u32 = 99; // shows where nothing is written
 
-// Where the numbers behind the first one start, of so many.
-fn behind_first(count: usize) -> usize
-    ensures { (result ≡ min 1 count) × (result ≤ count) }
-{
-    if count < 1 {
-        return 0;
-    }
-    1
-}
-
 // Writes a sheet under a rule, of movements (s, d, t, q, age) between three vessels, and yields its length.
 fn write_vector(text: &[u8], sheet: &mut [u8]) -> usize
     ensures { VectorWritten text.now sheet.old result sheet.new }
 {
     let mut numbers = [0u32; 1 + GIVEN_SIZE * MOVEMENTS];
     let count = text::parsing::read(text, &mut numbers);
-    let from = behind_first(count);
+    let from = count.min(1); // behind the rule, if there is one
     let names = b"A\0\0\0\0\0\0\0B\0\0\0\0\0\0\0C\0\0\0\0\0\0\0";
     writing::write(
         numbers[0],
@@ -89,7 +79,7 @@ fn show_calls<W: Write>(text: &[u8], out: &mut W) -> io::Result<()>
     let mut answers = [UNWRITTEN; CALLS];
     let mut room = [UNWRITTEN; VESSELS * VESSELS];
     let count = text::parsing::read(text, &mut calls);
-    let from = behind_first(count);
+    let from = count.min(1); // behind the rule, if there is one
     journal::carry_out(
         calls[0],
         VESSELS as u32,
@@ -102,16 +92,6 @@ fn show_calls<W: Write>(text: &[u8], out: &mut W) -> io::Result<()>
     print_line(&room, out)
 }
 
-// The first byte of a line, which tells what it is; an empty line is a heading.
-fn kind(line: &[u8]) -> u8
-    ensures { result ≡ get_or line.now 0 heading }
-{
-    if line.len() == 0 {
-        return b'#';
-    }
-    line[0]
-}
-
 // Writes a line as it is.
 fn print_heading<W: Write>(line: &[u8], out: &mut W) -> io::Result<()>
     ensures { OnOk result (Appends (W.contents out.old) (W.contents out.new) (heading_line line.now)) }
@@ -120,44 +100,23 @@ fn print_heading<W: Write>(line: &[u8], out: &mut W) -> io::Result<()>
     out.write_all(b"\n")
 }
 
-// Writes what is shown of a line.
+// Writes what is shown of a line: its first byte tells what it is, and an empty line is a heading.
 pub fn show_line<W: Write>(line: &[u8], out: &mut W) -> io::Result<()>
     ensures { OnOk result (Appends (W.contents out.old) (W.contents out.new) (shown line.now)) }
 {
-    let first = kind(line);
-    if first == b'#' {
-        return print_heading(line, out);
+    match line.first().copied().unwrap_or(b'#') {
+        b'#' => print_heading(line, out),
+        b'c' => show_calls(line, out),
+        _ => show(line, out),
     }
-    if first == b'c' {
-        return show_calls(line, out);
-    }
-    show(line, out)
-}
-
-// Where the line that starts at `from` ends: at its newline, or with the text.
-fn line_end(text: &[u8], from: usize) -> usize
-    requires { from ≤ length text.now }
-    ensures { (result ≡ from + length (line_of (drop from text.now))) × (result ≤ length text.now) }
-{
-    let mut i = from;
-    while i < text.len() {
-        if text[i] == b'\n' {
-            return i;
-        }
-        i += 1;
-    }
-    i
 }
 
 fn main(rt: HostRuntime) -> io::Result<()> {
     let mut text = [0u8; INPUT];
     let got = read_full(&mut rt.stdin(), &mut text)?;
     let mut out = rt.stdout();
-    let mut at: usize = 0;
-    while at < got {
-        let end = line_end(&text[..got], at);
-        show_line(&text[at..end], &mut out)?;
-        at = end + 1;
+    for line in text[..got].split_inclusive(|byte| *byte == b'\n') {
+        show_line(line.strip_suffix(b"\n").unwrap_or(line), &mut out)?;
     }
     Ok(())
 }

@@ -1,13 +1,28 @@
 -- `show_line` meets its contract: the first byte tells what is shown.
+use Rattle.std.proofs.Common.{◌≡◌, ◌∙◌, ℕ, List, get_or, Option, ap, arith, rules, unwrap_or}
+use Rattle.std.specs.Option.{option_copied}
+use denote.Ref.{Bor}
+use Rattle.vectors.specs.Vectors.{heading}
 use Rattle.vectors.proofs.VectorLaws.{shown_heading, shown_calls, shown_sheet}
 use Rattle.vectors.proofs.Output.{appends_same}
 use Rattle.vectors.proofs.show_line.Goals as goal
 
-pub returns-then-first-eq35 : goal.returns-then-first-eq35
-returns-then-first-eq35 g c = appends_same _ _ _ _ _ (shown_heading _ _ c.kind-first.ensures c.if-first-eq35.true) c.print_heading.ensures
+-- the byte that is found, or that of a heading
+first_byte : (line : List ℕ) (o : Option (Bor ℕ)) (copy : Option ℕ) (b : ℕ) → ((d : ℕ) → unwrap_or (option_copied o) d ≡ get_or line 0 d) → copy ≡ option_copied o
+    → b ≡ unwrap_or copy heading → b ≡ get_or line 0 heading
+first_byte line o copy b at e f = f ∙ ap (λ (k : Option ℕ). unwrap_or k heading) e ∙ at heading
 
-pub returns-then-first-eq99 : goal.returns-then-first-eq99
-returns-then-first-eq99 g c = appends_same _ _ _ _ _ (shown_calls _ _ c.kind-first.ensures c.if-first-eq35.false c.if-first-eq99.true) c.show_calls.ensures
+pub returns-in-35 : goal.returns-in-35
+returns-in-35 g c =
+    let first = first_byte c.args.line.now c.first.result _ _ (c.first.ensures.item.4 (omega arith)) c.copied.ensures c.unwrap_or.ensures in
+    appends_same _ _ _ _ _ (shown_heading _ _ first c.in-35.is) c.print_heading.ensures
 
-pub returns : goal.returns
-returns g c = appends_same _ _ _ _ _ (shown_sheet _ _ c.kind-first.ensures c.if-first-eq35.false c.if-first-eq99.false) c.show.ensures
+pub returns-in-99 : goal.returns-in-99
+returns-in-99 g c =
+    let first = first_byte c.args.line.now c.first.result _ _ (c.first.ensures.item.4 (omega arith)) c.copied.ensures c.unwrap_or.ensures in
+    appends_same _ _ _ _ _ (shown_calls _ _ first (omega arith) c.in-99.is) c.show_calls.ensures
+
+pub returns-in_default : goal.returns-in_default
+returns-in_default g c =
+    let first = first_byte c.args.line.now c.first.result _ _ (c.first.ensures.item.4 (omega arith)) c.copied.ensures c.unwrap_or.ensures in
+    appends_same _ _ _ _ _ (shown_sheet _ _ first (search rules) (search rules)) c.show.ensures
