@@ -13,7 +13,7 @@ use Rattle.refusal.proofs.Numbers.{not_zero}
 use Rattle.fields.specs.Movements.{given_size}
 use Rattle.fields.specs.Layout.{header_size, name_start, sheet_size, most_movements}
 use Rattle.fields.proofs.BackLaws.{Below}
-use Rattle.refusal.proofs.Refusals.{refused, passed_on}
+use Rattle.refusal.proofs.Refusals.{some_number, passed_on}
 use Rattle.sheet.specs.declared.answer.Reading.{Reading}
 use Rattle.sheet.specs.Sheet.{rule_of, vessels_of, movements_of, read_number}
 use Rattle.sheet.specs.Answers.{reading, refused_reading}
@@ -35,7 +35,7 @@ Again s out n out' = (n ≡ rewrite_number s (length out)) × (out' ≡ rewritte
 pub again_refused : (s out : List ℕ) (r : Result Unit Refusal) (why : Refusal) → IsErrAnd r (λ (other : Refusal). other ≡ why)
     → refused_reading (number_of why) ≡ reading s → Again s out (outcome_number r) out
 again_refused s out r why is e =
-    let h = refused (Err why) refl in
+    let h = some_number why in
     let n = asked_refused s (refused_reading (number_of why)) e (19 if ltb (length out) (length s)) h in
     (passed_on r why _ is n, rw (← n) (not_zero (number_of why) (s ++ drop (length s) out) out h))
 
