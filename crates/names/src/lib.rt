@@ -52,7 +52,7 @@ fn name_off(names: &[u8], vessels: usize, i: usize) -> bool
     !well_formed(name_at(names, i)) || used_again(names, vessels, i)
 }
 
-// Whether a name is ill-formed or used twice.
+// Whether a name is ill-formed or used twice. The count is told, since the bytes may go on behind the names, as in a sheet.
 pub fn names_off(names: &[u8], vessels: usize) -> bool
     requires { name_size * vessels ≤ length names.now }
     ensures { result ≡ names_off (names_in vessels names.now) }
