@@ -7,9 +7,9 @@ use Rattle.table.specs.declared.Piece.{Piece}
 use Rattle.table.specs.Pieces.{no_piece}
 use Rattle.table.specs.Table.{pieces_of, piece_in}
 use Rattle.table.proofs.Table.{length_pieces}
-use Rattle.fields.proofs.PutLaws.{put_then}
 use Rattle.run.specs.declared.Ran.{Ran}
 use Rattle.text.specs.Text.{Put}
+use Rattle.text.proofs.TextLaws.{sets_append}
 use Rattle.listing.specs.Listing.{Listed, piece_line, piece_lines, stopped_line, last_line, refused_line, book_text, listing_text, last_size, refused_size, room_for}
 
 module _ (t : List ℕ) (n i : ℕ) where
@@ -33,7 +33,7 @@ module _ (out out' goal t : List ℕ) (next next' n i : ℕ) (p : Piece) (h : i 
 
   pub bytes_turn : sets out next (lines_left t n i) ≡ goal → sets out' next' (lines_left t n (i + 1)) ≡ goal
   bytes_turn e =
-      put_then out out' _ (piece_line p) (lines_left t n (i + 1)) next next' q.next_is q.after_is refl
+      (rw (q.next_is, q.after_is) (sym (sets_append (piece_line p) (lines_left t n (i + 1)) out next)))
       ∙ ap (λ (l : List ℕ). sets out next l) (sym shown) ∙ e
 
   pub count_turn : (total : ℕ) → next + length (lines_left t n i) ≡ total → next' + length (lines_left t n (i + 1)) ≡ total

@@ -1,6 +1,6 @@
 -- Laws of reading numbers. A text is cut at what is no digit; its numbers are those that its parts make, but for the empty ones.
 -- Assumes nothing.
-use Rattle.std.proofs.Common.{ℕ, suc, ◌+◌, ◌<◌, ◌≤◌, min, add-zero, zero-add, arith, append-nil, eqb, eqb-true, ◌⊎◌, inl, inr, map, ◌≡◌, refl, sym, ap, ◌∙◌, Bool, true, false, not, cond, List, [], ◌∷◌, ◌++◌, length, take, set, length-append, fold}
+use Rattle.std.proofs.Common.{ℕ, suc, ◌+◌, ◌<◌, ◌≤◌, min, zero-add, arith, append-nil, eqb, eqb-true, ◌⊎◌, inl, inr, map, ◌≡◌, refl, sym, ap, ◌∙◌, Bool, true, false, not, cond, List, [], ◌∷◌, ◌++◌, length, take, set, length-append, fold}
 use Rattle.std.proofs.lemmas.List.{map-append, set_past}
 use Rattle.std.specs.Char.{is_ascii_digit}
 use Rattle.std.specs.List.{slice_split, onto_first}
@@ -8,6 +8,7 @@ use native.Mathlib.Nat.{zero-min, min-zero, suc-min-suc}
 use lib.Seq.{sets, length-sets, take-nil}
 use borrow.Author.Tests.{eqb-false}
 use denote.Ref.{Bor}
+use Rattle.text.proofs.TextLaws.{sets_append}
 use Rattle.text.specs.Numbers.{digit, digit_at, with_digit, number, numbers_from, numbers_in}
 
 -- the parts of a text, and the numbers that parts make
@@ -69,10 +70,6 @@ unfolding made
 one_number [] e = absurd (eqb-false 0 0 e refl)
 one_number (d ∷ ds) e = refl
 
-sets_more : (vs l : List ℕ) (i n : ℕ) → sets l i (vs ++ (n ∷ [])) ≡ set (sets l i vs) (i + length vs) n
-sets_more [] l i n = rw add-zero
-sets_more (v ∷ vs) l i n = sets_more vs (set l i v) (suc i) n ∙ ap (λ (k : ℕ). set (sets (set l i v) (suc i) vs) k n) (omega arith)
-
 -- the parts that a loop was given
 abbrev pub given : List (Bor (List ℕ)) → List (List ℕ)
 given ys = map (λ d. d.now) ys
@@ -102,7 +99,7 @@ module _ (ys : List (Bor (List ℕ))) (x : Bor (List ℕ)) (out₀ out : List �
 
     next : sets out₀ 0 after ≡ set out (length before) (number x.now)
     unfolding before
-    next = rw (one, sets_more, zero-add, ← r.put)
+    next = rw (one, sets_append, zero-add, ← r.put)
 
     pub put_turn : (n : ℕ) → n ≡ number x.now → count < length out → Reading (given (ys ++ (x ∷ []))) out₀ (set out count n) (count + 1)
     unfolding before after

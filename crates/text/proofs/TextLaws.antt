@@ -1,18 +1,21 @@
 -- Laws of texts put one behind the other, and of how many digits a number has.
 -- Assumes nothing.
-use Rattle.std.proofs.Common.{ℕ, zero, suc, ◌+◌, ◌-◌, ◌/◌, ◌<◌, ◌≤◌, arith, ◌≡◌, refl, sym, ◌∙◌, List, [], ◌∷◌, ◌++◌, length, length-append}
+use Rattle.std.proofs.Common.{ℕ, zero, suc, ◌+◌, ◌-◌, ◌/◌, ◌<◌, ◌≤◌, arith, ◌≡◌, refl, sym, ◌∙◌, List, [], ◌∷◌, ◌++◌, length, length-append, set, add-zero, ap}
 use Rattle.std.proofs.lemmas.Slice.{put_mid-paste}
-use lib.Seq.{sets-eq, take-length}
+use lib.Seq.{sets, sets-eq, take-length}
 use borrow.Rule.Slice.PartMut.{put_mid}
-use Rattle.fields.proofs.PutLaws.{put_then}
 use Rattle.text.specs.Digits.{last_digit, digits, decimal}
 use Rattle.text.specs.Text.{Put}
+
+pub sets_append : (a b l : List ℕ) (i : ℕ) → sets l i (a ++ b) ≡ sets (sets l i a) (i + length a) b
+sets_append [] b l i = rw add-zero
+sets_append (x ∷ a) b l i = sets_append a b (set l i x) (suc i) ∙ ap (λ (k : ℕ). sets (sets (set l i x) (suc i) a) k b) (omega arith)
 
 -- two texts put one behind the other are one
 pub then : {l l₁ l₂ a b : List ℕ} {at i j : ℕ} → Put l at a i l₁ → Put l₁ i b j l₂ → Put l at (a ++ b) j l₂
 then {l} {l₁} {l₂} {a} {b} {at} {i} {j} p q = record {
   next_is = rw length-append (omega (arith, p.next_is, q.next_is));
-  after_is = put_then l l₁ l₂ a b at i p.next_is p.after_is q.after_is;
+  after_is = q.after_is ∙ rw (sets_append, p.after_is, p.next_is);
 }
 
 pub no_digits : (k : ℕ) → digits k 0 ≡ []

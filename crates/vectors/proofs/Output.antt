@@ -1,6 +1,6 @@
 -- What is written: bytes behind bytes, a line of numbers, and what is shown of a list of calls.
 -- Assumes nothing.
-use Rattle.std.proofs.Common.{◌≡◌, ℕ, zero, suc, ◌+◌, ◌-◌, ◌<◌, min, List, [], ◌∷◌, ◌++◌, length, get_or, take, drop, replicate, decimal, refl, sym, ◌∙◌, ap, ap₂, subst, append_assoc, append-nil, add-one, arith, OnOk, Ok, Err, Some, None}
+use Rattle.std.proofs.Common.{◌≡◌, ℕ, zero, suc, ◌+◌, ◌<◌, min, List, [], ◌∷◌, ◌++◌, length, get_or, take, drop, replicate, decimal, refl, sym, ◌∙◌, ap, ap₂, subst, append_assoc, append-nil, add-one, arith, OnOk, Ok, Err, Some, None}
 use Rattle.std.proofs.lemmas.List.Edits.{sets}
 use Rattle.std.specs.Io.KnownBytes.{Appends}
 use Rattle.std.specs.declared.option.Option.{Option}
@@ -9,7 +9,7 @@ use Rattle.book.specs.declared.Opened.{Opened}
 use Rattle.journal.specs.Carried.{carry_number, CarriesOut}
 use Rattle.text.specs.Numbers.{numbers_in}
 use Rattle.vectors.specs.Vectors.{space, vessels, table_room, answers_room, report_room, calls_room, unwritten, numbers_text, numbers_line, carried_listing, calls_listing}
-use Rattle.vectors.proofs.VectorLaws.{rule_is, rest_is}
+use Rattle.vectors.proofs.VectorLaws.{numbers_read}
 
 -- bytes behind bytes
 pub appends_none : (old : Option (List ℕ)) → Appends old old []
@@ -56,11 +56,12 @@ carried_shown rule calls r t answers room w = go (carry_number rule vessels call
     go zero e = let d = w.done e in rw (e, d.2, d.3)
     go (suc n) e = let d = w.refused (λ z. omega (arith, e, z)) in rw (e, d.2, d.3)
 
-pub calls_shown : (text numbers : List ℕ) (count from : ℕ) → count ≡ min (length (numbers_in text)) (1 + calls_room) → from ≡ min count 1
-    → numbers ≡ sets (replicate (1 + calls_room) 0) 0 (numbers_in text) → (r : Opened) (t answers room : List ℕ)
-    → CarriesOut (get_or numbers 0 0) vessels (take (count - from) (drop from numbers)) (replicate table_room 0) (replicate answers_room unwritten)
-    (replicate report_room unwritten) r t answers room
+pub calls_shown : (text numbers : List ℕ) (count : ℕ) → count ≡ min (length (numbers_in text)) (1 + calls_room)
+    → numbers ≡ sets (replicate (1 + calls_room) 0) 0 (numbers_in text) → (rule : ℕ) (calls : List ℕ)
+    → (rule ≡ get_or (take count numbers) 0 0) × (calls ≡ drop 1 (take count numbers)) → (r : Opened) (t answers room : List ℕ)
+    → CarriesOut rule vessels calls (replicate table_room 0) (replicate answers_room unwritten) (replicate report_room unwritten) r t answers room
     → numbers_line answers ++ numbers_line room ≡ calls_listing text
-calls_shown text numbers count from ec ef en r t answers room w =
+calls_shown text numbers count ec en rule calls (er, em) r t answers room w =
+    let read = numbers_read (1 + calls_room) text numbers count ec en in
     carried_shown _ _ r t answers room w
-    ∙ ap₂ (λ (rule : ℕ) (calls : List ℕ). carried_listing rule calls) (rule_is calls_room text numbers count from ec ef en) (rest_is calls_room text numbers count from ec ef en)
+    ∙ ap₂ (λ (rule : ℕ) (calls : List ℕ). carried_listing rule calls) (er ∙ ap (λ (ns : List ℕ). get_or ns 0 0) read) (em ∙ ap (drop 1) read)

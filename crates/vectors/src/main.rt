@@ -3,7 +3,7 @@
 // 01's, K1 to K10; the others tell apart what those can't.
 #![tactic(auto)]
 
-ghost use Rattle.std.specs.Prelude.{OnOk};
+ghost use Rattle.std.specs.Prelude.{◌≡◌, get_or, drop, OnOk};
 ghost use Rattle.std.specs.Io.KnownBytes.{Appends};
 ghost use Rattle.vectors.specs.Vectors.{heading_line, VectorWritten, vector_listing, calls_listing, numbers_line, shown};
 
@@ -29,22 +29,26 @@ const CALLS: usize = 13; // of a list at most
 
 const UNWRITTEN: u32 = 99; // shows where nothing is written
 
+// The rule, which stands first, and the numbers behind it.
+fn split_rule(numbers: &[u32]) -> (u32, &[u32])
+    ensures { (result.0 ≡ get_or numbers.now 0 0) × (result.1.now ≡ drop 1 numbers.now) }
+{
+    match numbers {
+        [rule, behind @ ..] => (*rule, behind),
+        [] => (0, numbers),
+    }
+}
+
 // Writes a sheet under a rule, of movements (s, d, t, q, age) between three vessels, and yields its length.
 fn write_vector(text: &[u8], sheet: &mut [u8]) -> usize
     ensures { VectorWritten text.now sheet.old result sheet.new }
 {
     let mut numbers = [0u32; 1 + GIVEN_SIZE * MOVEMENTS];
     let count = text::parsing::read(text, &mut numbers);
-    let from = count.min(1); // behind the rule, if there is one
+    let (rule, movements) = split_rule(&numbers[..count]);
     let names = b"A\0\0\0\0\0\0\0B\0\0\0\0\0\0\0C\0\0\0\0\0\0\0";
-    writing::write(
-        numbers[0],
-        VESSELS as u32,
-        names,
-        &numbers[from..count],
-        sheet,
-    );
-    HEADER_SIZE + NAME_SIZE * VESSELS + ENTRY_SIZE * ((count - from) / GIVEN_SIZE)
+    writing::write(rule, VESSELS as u32, names, movements, sheet);
+    HEADER_SIZE + NAME_SIZE * VESSELS + ENTRY_SIZE * (movements.len() / GIVEN_SIZE)
 }
 
 // Writes the listing of movements between three vessels.
@@ -74,17 +78,17 @@ fn print_line<W: Write>(numbers: &[u32], out: &mut W) -> io::Result<()>
 fn show_calls<W: Write>(text: &[u8], out: &mut W) -> io::Result<()>
     ensures { OnOk result (Appends (W.contents out.old) (W.contents out.new) (calls_listing text.now)) }
 {
-    let mut calls = [0u32; 1 + CALL_SIZE * CALLS];
+    let mut numbers = [0u32; 1 + CALL_SIZE * CALLS];
     let mut table = [0u32; TABLE];
     let mut answers = [UNWRITTEN; CALLS];
     let mut room = [UNWRITTEN; VESSELS * VESSELS];
-    let count = text::parsing::read(text, &mut calls);
-    let from = count.min(1); // behind the rule, if there is one
+    let count = text::parsing::read(text, &mut numbers);
+    let (rule, calls) = split_rule(&numbers[..count]);
     journal::carry_out(
-        calls[0],
+        rule,
         VESSELS as u32,
         &mut table,
-        &calls[from..count],
+        calls,
         &mut answers,
         &mut room,
     );

@@ -5,5 +5,5 @@ use Rattle.vectors.proofs.show_calls.Goals as goal
 pub returns : goal.returns
 returns g c =
     appends_same _ _ _ _ _
-    (calls_shown c.args.text.now _ _ _ c.read-count.ensures.count c.min-from.ensures c.read-count.ensures.numbers _ _ _ _ c.carry_out.ensures)
+    (calls_shown c.args.text.now _ _ c.read-count.ensures.count c.read-count.ensures.numbers _ _ c.split_rule-rule.ensures _ _ _ _ c.carry_out.ensures)
     (appends_then _ _ _ _ _ _ c.in_ok-print_line.ensures c.print_line-2.ensures)
