@@ -9,7 +9,7 @@ use Rattle.taking.proofs.Sweeping.{none_held}
 use Rattle.refusal.specs.Numbers.{first}
 use Rattle.refusal.proofs.Numbers.{Passed, passed}
 use Rattle.book.specs.declared.Head.{Head}
-use Rattle.book.specs.declared.Opened.{Opened}
+use Rattle.book.specs.declared.Reply.{Reply}
 use Rattle.book.specs.Head.{last_rule, most_vessels, the_scale, all_of, piece_tests, fits, every, same, all_zero, empty_head, not_opened, open_checks, opens, opening}
 use Rattle.book.proofs.HolderLaws.{holder_vessel}
 use Rattle.book.proofs.Sound.{SoundPiece}
@@ -101,7 +101,7 @@ pub openable : (rule size : ℕ) → first (open_checks rule size) ≡ 0 → Ope
 openable rule size e = checked rule size (passed (open_checks rule size) tt e)
 
 -- opening, with the number of its checks in hand
-module _ (rule size n : ℕ) (z : Opened) (e : n ≡ first (open_checks rule size)) where
+module _ (rule size n : ℕ) (z : Reply) (e : n ≡ first (open_checks rule size)) where
   pub open_refused : (n ≡ 0 → ⊥) → z ≡ not_opened n → z ≡ opening rule size
   unfolding opening
   open_refused nz ez = ez ∙ rw (← e) (go n nz)

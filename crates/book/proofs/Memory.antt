@@ -10,7 +10,7 @@ use Rattle.refusal.proofs.Numbers.{not_zero, first_zero, passed, first_append}
 use Rattle.book.specs.declared.Head.{Head}
 use Rattle.book.specs.Head.{Book, last_rule, most_vessels, the_scale, balances_of, head_of, book_of, adds_up}
 use Rattle.book.specs.Calls.{Call, post, lift, tip, ask, meaning, no_answer}
-use Rattle.book.specs.Memory.{Outcome, outcome, book_checks, number_of, call_on, transferred, tipped, reported}
+use Rattle.book.specs.Memory.{Outcome, outcome, book_checks, number_of, call_on, transferred, replied}
 use Rattle.book.proofs.Sound.{number, SoundBook, Lies, keeps}
 use Rattle.book.proofs.HeadLaws.{same_refl, all_fit}
 
@@ -44,9 +44,8 @@ call_number h t c = go (number_of h t c)
 -- what the code answers is all of it
 pub answer_told : (o : Outcome)
     → (transferred o ≡ record { number = o.number; head = o.head; whole = o.answer.whole; split = o.answer.split; born = o.answer.born })
-    × (tipped o ≡ record { number = o.number; head = o.head })
-    × (reported o ≡ record { number = o.number; head = o.head })
-answer_told o = (refl, refl, refl)
+    × (replied o ≡ record { number = o.number; head = o.head })
+answer_told o = (refl, refl)
 
 -- a refused call gives back the head and leaves all memory as it was
 pub refused_on : (h : Head) (t : List ℕ) (c : Call) (n : ℕ) → number_of h t c ≡ n → (n ≡ 0 → ⊥)

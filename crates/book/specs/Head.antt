@@ -9,7 +9,7 @@ use Rattle.table.specs.Pieces.{held}
 use Rattle.table.specs.Table.{pieces_of, places_of}
 use Rattle.refusal.specs.Numbers.{TOP, Check, ◌if◌, first}
 use Rattle.book.specs.declared.Head.{Head}
-use Rattle.book.specs.declared.Opened.{Opened}
+use Rattle.book.specs.declared.Reply.{Reply}
 
 -- "rule is 0 to 3; V is 1 to 64"
 abbrev pub last_rule : ℕ
@@ -160,17 +160,17 @@ adds_up h t = all_of (book_tests h t)
 abbrev pub empty_head : ℕ → ℕ → Head
 empty_head rule size = record { rule = rule; vessels = size; pieces = 0; last = 0; accepted = 0; balances = replicate most_vessels 0; scale = 0 }
 
-abbrev pub not_opened : ℕ → Opened
+abbrev pub not_opened : ℕ → Reply
 not_opened n = record { number = n; head = empty_head 0 0 }
 
 abbrev pub open_checks : ℕ → ℕ → List Check
 open_checks rule size = 2 if ltb last_rule rule ∷ 3 if ltb size 1 ∷ 3 if ltb most_vessels size ∷ []
 
-abbrev pub opens : ℕ → ℕ → ℕ → Opened
+abbrev pub opens : ℕ → ℕ → ℕ → Reply
 opens rule size zero = record { number = 0; head = empty_head rule size }
 opens rule size (suc n) = not_opened (suc n)
 
-unfoldable pub opening : ℕ → ℕ → Opened
+unfoldable pub opening : ℕ → ℕ → Reply
 opening rule size = opens rule size (first (open_checks rule size))
 
 -- the empty book

@@ -7,8 +7,7 @@ use Rattle.table.specs.Table.{places_of}
 use Rattle.refusal.specs.Numbers.{Check, ◌if◌, first}
 use Rattle.book.specs.declared.Head.{Head}
 use Rattle.book.specs.declared.Transferred.{Transferred}
-use Rattle.book.specs.declared.Tipped.{Tipped}
-use Rattle.book.specs.declared.Reported.{Reported}
+use Rattle.book.specs.declared.Reply.{Reply}
 use Rattle.book.specs.Head.{head_of, book_of, adds_up}
 use Rattle.book.specs.Calls.{Call, Answer, no_answer, Meaning, meaning}
 
@@ -43,8 +42,5 @@ call_on h t c = outcome h t (meaning c) (number_of h t c)
 abbrev pub transferred : Outcome → Transferred
 transferred o = record { number = o.number; head = o.head; whole = o.answer.whole; split = o.answer.split; born = o.answer.born }
 
-abbrev pub tipped : Outcome → Tipped
-tipped o = record { number = o.number; head = o.head }
-
-abbrev pub reported : Outcome → Reported
-reported o = record { number = o.number; head = o.head }
+abbrev pub replied : Outcome → Reply
+replied o = record { number = o.number; head = o.head }

@@ -28,10 +28,10 @@ pub struct Head {
     pub scale: u32,
 }
 
-// What opening answers.
+// What opening, a tip and a report answer.
 #[repr(C)]
 #[derive(Clone, Copy, Debug, PartialEq, Eq)]
-pub struct Opened {
+pub struct Reply {
     pub number: u32,
     pub head: Head,
 }
@@ -84,14 +84,6 @@ pub struct Transferred {
     pub born: u32,
 }
 
-// What a tip answers.
-#[repr(C)]
-#[derive(Clone, Copy, Debug, PartialEq, Eq)]
-pub struct Tipped {
-    pub number: u32,
-    pub head: Head,
-}
-
 // What a report is asked for: the weight by origin in a vessel; the weight in each vessel that was born at an origin from a minute to a
 // minute; the first of all vessels.
 #[derive(Clone, Copy, Debug, PartialEq, Eq)]
@@ -101,30 +93,11 @@ pub enum Report {
     Whole,
 }
 
-// What a report answers.
-#[repr(C)]
-#[derive(Clone, Copy, Debug, PartialEq, Eq)]
-pub struct Reported {
-    pub number: u32,
-    pub head: Head,
-}
-
-impl From<Transferred> for Reported {
+impl From<Transferred> for Reply {
     ghost from_gives = { λ r z. z ≡ record { number = r.number; head = r.head } };
 
-    fn from(r: Transferred) -> Reported {
-        Reported {
-            number: r.number,
-            head: r.head,
-        }
-    }
-}
-
-impl From<Tipped> for Reported {
-    ghost from_gives = { λ r z. z ≡ record { number = r.number; head = r.head } };
-
-    fn from(r: Tipped) -> Reported {
-        Reported {
+    fn from(r: Transferred) -> Reply {
+        Reply {
             number: r.number,
             head: r.head,
         }

@@ -10,8 +10,7 @@ use Rattle.refusal.proofs.Numbers.{refuses, passes, passed_first, passed_second}
 use Rattle.refusal.proofs.Refusals.{some_number}
 use Rattle.std.specs.Prelude.{Result, Ok}
 use Rattle.book.specs.declared.Head.{Head}
-use Rattle.book.specs.declared.Opened.{Opened}
-use Rattle.book.specs.declared.Reported.{Reported}
+use Rattle.book.specs.declared.Reply.{Reply}
 use Rattle.book.specs.Head.{empty_head, not_opened, open_checks, opening}
 use Rattle.book.specs.declared.Report.{Report}
 use Rattle.book.specs.Calls.{ask}
@@ -27,7 +26,7 @@ use Rattle.journal.specs.Reading.{call_read, called}
 use Rattle.journal.proofs.Reading.{rest, rest_is, read_on, called_is}
 
 -- a report as a call
-pub made_report : (h : Head) (t room : List ℕ) (q : Report) (z : Reported) (r' : List ℕ) → Asks h q t room r' z → Makes h (ask q room) t room t r' z
+pub made_report : (h : Head) (t room : List ℕ) (q : Report) (z : Reply) (r' : List ℕ) → Asks h q t room r' z → Makes h (ask q room) t room t r' z
 made_report h t room q z r' p = record { answer = p.answer; table = sym (asked_nothing h t q room).1; room = p.room }
 
 -- Where carrying out stands before call i of n: the numbers so far and those that are left make the whole, and so do head, table and room.
@@ -46,7 +45,7 @@ module _ (n : ℕ) (l : List ℕ) (h₀ : Head) (t₀ a₀ r₀ : List ℕ) (h :
   abbrev all : Carried
   all = carried n l h₀ t₀ r₀
 
-  pub going_next : (z : Reported) (t' r' : List ℕ) → i < n → n ≤ length a₀ → (k : Result Read.Call Refusal) → k ≡ call_read (rest (call_size * i) l) → (c : Read.Call) → k ≡ Ok c → Makes h (called c r) t r t' r' z → length t' ≡ length t → length r' ≡ length r
+  pub going_next : (z : Reply) (t' r' : List ℕ) → i < n → n ≤ length a₀ → (k : Result Read.Call Refusal) → k ≡ call_read (rest (call_size * i) l) → (c : Read.Call) → k ≡ Ok c → Makes h (called c r) t r t' r' z → length t' ≡ length t → length r' ≡ length r
       → Going n l h₀ t₀ a₀ r₀ z.head t' (set a i z.number) r' (i + 1)
   unfolding carried
   going_next z t' r' q m k ek c ec p lt lr =
@@ -113,7 +112,7 @@ module _ (rule size : ℕ) (l t a r : List ℕ) (n : ℕ) (en : n ≡ count_call
   unfolding carry_number
   number_parts = rw en
 
-  pub carry_refused : (why : Refusal) → number_of why ≡ first (open_checks rule size ++ (18 if ages_off n l) ∷ []) → (z : Opened) → z ≡ not_opened (number_of why) → CarriesOut rule size l t a r z t a r
+  pub carry_refused : (why : Refusal) → number_of why ≡ first (open_checks rule size ++ (18 if ages_off n l) ∷ []) → (z : Reply) → z ≡ not_opened (number_of why) → CarriesOut rule size l t a r z t a r
   carry_refused why e z ez =
       let k : carry_number rule size l a ≡ number_of why = number_parts ∙ sym e in
       record { refused = λ u. (rw k ez, refl, refl, refl); done = λ u. absurd (some_number why (sym k ∙ u)); demand = λ u. absurd (some_number why (sym k ∙ u)) }
@@ -134,11 +133,11 @@ module _ (rule size : ℕ) (l t a r : List ℕ) (n : ℕ) (en : n ≡ count_call
     carry_done h h' eh t' a' r' p =
         let k : carry_number rule size l a ≡ 0 = number_parts ∙ sym e in
         let o : record { number = 0; head = h } ≡ opening rule size = open_accepted rule size 0 (record { number = 0; head = h }) (sym opens_well) refl h eh in
-        let f : h ≡ (opening rule size).head = ap (λ (x : Opened). x.head) o in
+        let f : h ≡ (opening rule size).head = ap (λ (x : Reply). x.head) o in
         let j = journal_is (count_calls l a) l (opening rule size).head t r in
         let q = rw (en, f) at p in
         record {
           refused = λ u. absurd (u k);
           done = λ u. (ap (λ (x : Head). record { number = 0; head = x }) q.head, q.table, q.answers, q.room);
-          demand = λ u. (q.head ∙ j.0, q.table ∙ j.1, demand_3 rule size (sym (ap (λ (x : Opened). x.number) o)) t _);
+          demand = λ u. (q.head ∙ j.0, q.table ∙ j.1, demand_3 rule size (sym (ap (λ (x : Reply). x.number) o)) t _);
         }

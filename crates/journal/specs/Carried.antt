@@ -6,18 +6,17 @@
 use Rattle.std.specs.Prelude.{◌≡◌, Bool, false, cond, ◌||◌, List, [], ◌∷◌, ◌++◌, ℕ, zero, suc, ◌/◌, min, eqb, ltb, length, get_or, drop}
 use Rattle.refusal.specs.Numbers.{◌if◌, first}
 use Rattle.book.specs.declared.Head.{Head}
-use Rattle.book.specs.declared.Opened.{Opened}
+use Rattle.book.specs.declared.Reply.{Reply}
 use Rattle.book.specs.Head.{not_opened, open_checks, opening}
 use Rattle.book.specs.declared.Report.{Report}
 use Rattle.book.specs.declared.Report.TheVariants.{Held, Spread, Whole}
-use Rattle.book.specs.declared.Reported.{Reported}
 use Rattle.book.specs.declared.Transfer.{Transfer}
 use Rattle.book.specs.declared.Lift.{Lift}
 use Rattle.book.specs.declared.Tip.{Tip}
 use Rattle.book.specs.Transfer.{most_age, transfer_of}
 use Rattle.book.specs.Scale.{lift_of, tip_of}
 use Rattle.book.specs.Calls.{Call, post, lift, tip, ask}
-use Rattle.book.specs.Memory.{Outcome, call_on, reported}
+use Rattle.book.specs.Memory.{Outcome, call_on, replied}
 use Rattle.book.specs.Lists.{calls_on, Demand3}
 
 abbrev pub call_size : ℕ
@@ -65,8 +64,8 @@ room_left (tip y) o room = room
 room_left (ask q r) o room = o.room
 
 -- What any call promises: its number and the next head, and table and room after it.
-pub record Makes (h : Head) (c : Call) (t r t' r' : List ℕ) (z : Reported) : Type 0 where
-  pub answer : z ≡ reported (call_on h t c)
+pub record Makes (h : Head) (c : Call) (t r t' r' : List ℕ) (z : Reply) : Type 0 where
+  pub answer : z ≡ replied (call_on h t c)
   pub table : t' ≡ (call_on h t c).table
   pub room : r' ≡ room_left c (call_on h t c) r
 
@@ -112,7 +111,7 @@ carry_number rule size calls answers = first (open_checks rule size ++ (18 if ag
 
 -- What carrying out a list of calls promises: with the rule and V that were given, the numbers of the calls, the four lent slices before, and the
 -- answer and the slices after.
-pub record CarriesOut (rule size : ℕ) (calls t answers room : List ℕ) (r : Opened) (t' answers' room' : List ℕ) : Type 0 where
+pub record CarriesOut (rule size : ℕ) (calls t answers room : List ℕ) (r : Reply) (t' answers' room' : List ℕ) : Type 0 where
   -- a refused list leaves all as it was
   pub refused : (carry_number rule size calls answers ≡ 0 → ⊥) → (r ≡ not_opened (carry_number rule size calls answers)) × (t' ≡ t) × (answers' ≡ answers) × (room' ≡ room)
   -- else the calls are made on a fresh book

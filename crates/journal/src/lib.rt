@@ -8,7 +8,7 @@ ghost use Rattle.book.specs.Head.{open_checks};
 ghost use Rattle.journal.specs.Carried.{call_size, ages_off, Makes, MakesAll, CarriesOut};
 ghost use Rattle.journal.specs.Reading.{age_read, call_read, called};
 
-use book::{Head, Lift, Opened, Report, Reported, Tip, Transfer};
+use book::{Head, Lift, Reply, Report, Tip, Transfer};
 use ledger::opening;
 use refusal::Refusal;
 
@@ -72,13 +72,13 @@ fn read_call(six: &[u32]) -> Result<Call, Refusal>
 }
 
 // That call is made.
-fn make(head: Head, table: &mut [u32], call: Call, room: &mut [u32]) -> Reported
+fn make(head: Head, table: &mut [u32], call: Call, room: &mut [u32]) -> Reply
     ensures { Makes head (called call room.old) table.old room.old table.new room.new result }
 {
     match call {
         Call::Transfer(x) => posting::transfer(head, table, x).into(),
         Call::Lift(x) => posting::lift(head, table, x).into(),
-        Call::Tip(y) => posting::tip(head, table, y).into(),
+        Call::Tip(y) => posting::tip(head, table, y),
         Call::Report(asked) => reports::report(head, table, asked, room),
     }
 }
@@ -135,7 +135,7 @@ pub fn carry_out(
     calls: &[u32],
     answers: &mut [u32],
     room: &mut [u32],
-) -> Opened
+) -> Reply
     ensures { CarriesOut rule vessels calls.now table.old answers.old room.old
         result table.new answers.new room.new }
 {
@@ -144,7 +144,7 @@ pub fn carry_out(
         Ok(()) => {
             let fresh = opening::empty_head(rule, vessels);
             let head = call_all(fresh, n, table, calls, answers, room);
-            Opened { number: 0, head }
+            Reply { number: 0, head }
         }
         Err(why) => opening::refused(why),
     }

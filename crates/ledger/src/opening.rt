@@ -4,7 +4,7 @@ ghost use Rattle.refusal.specs.Numbers.{first};
 ghost use Rattle.refusal.specs.Refusals.{number_of, outcome_number};
 ghost use Rattle.book.specs.Head.{empty_head, not_opened, open_checks, opening};
 
-use book::{BALANCES, Head, Opened};
+use book::{BALANCES, Head, Reply};
 use refusal::Refusal;
 
 // The rules are numbered from 0 to this.
@@ -29,10 +29,10 @@ pub fn empty_head(rule: u32, vessels: u32) -> Head
 }
 
 // A refusal: a head of zeros.
-pub fn refused(why: Refusal) -> Opened
+pub fn refused(why: Refusal) -> Reply
     ensures { result ≡ not_opened (number_of why) }
 {
-    Opened {
+    Reply {
         number: u32::from(why),
         head: empty_head(0, 0),
     }
@@ -52,11 +52,11 @@ pub fn check_opening(rule: u32, vessels: u32) -> Result<(), Refusal>
 }
 
 // A fresh book under the rule, with this many vessels.
-pub fn open(rule: u32, vessels: u32) -> Opened
+pub fn open(rule: u32, vessels: u32) -> Reply
     ensures { result ≡ opening rule vessels }
 {
     match check_opening(rule, vessels) {
-        Ok(()) => Opened {
+        Ok(()) => Reply {
             number: 0,
             head: empty_head(rule, vessels),
         },

@@ -13,14 +13,14 @@ ghost use Rattle.sheet.specs.Answers.{reading, movement_asked, name_number, name
 ghost use Rattle.writing.specs.Writing.{write_number, written};
 ghost use Rattle.run.specs.Run.{Gives, running};
 
-use book::{Head, Opened, Reported, Transfer, Transferred};
+use book::{Head, Reply, Transfer, Transferred};
 use run::Ran;
 use sheet::answer::{Movement, Reading};
 
 mod scale; // scale.rt: lift and tip
 
 #[unsafe(no_mangle)]
-pub extern "C" fn lumchaki_open(rule: u32, vessels: u32) -> Opened
+pub extern "C" fn lumchaki_open(rule: u32, vessels: u32) -> Reply
     ensures { result ≡ opening rule vessels }
 {
     ledger::opening::open(rule, vessels)
@@ -57,7 +57,7 @@ pub extern "C" fn lumchaki_held(
     table: &[u32],
     vessel: u32,
     report: &mut [u32],
-) -> Reported
+) -> Reply
     ensures { Asks head (Held vessel) table.now report.old report.new result }
 {
     reports::held(head, table, vessel, report)
@@ -71,21 +71,21 @@ pub extern "C" fn lumchaki_spread(
     from: u32,
     to: u32,
     report: &mut [u32],
-) -> Reported
+) -> Reply
     ensures { Asks head (Spread origin from to) table.now report.old report.new result }
 {
     reports::spread(head, table, origin, from, to, report)
 }
 
 #[unsafe(no_mangle)]
-pub extern "C" fn lumchaki_whole(head: Head, table: &[u32], report: &mut [u32]) -> Reported
+pub extern "C" fn lumchaki_whole(head: Head, table: &[u32], report: &mut [u32]) -> Reply
     ensures { Asks head Whole table.now report.old report.new result }
 {
     reports::whole(head, table, report)
 }
 
 #[unsafe(no_mangle)]
-pub extern "C" fn lumchaki_whole_by_rows(head: Head, table: &[u32], report: &mut [u32]) -> Reported
+pub extern "C" fn lumchaki_whole_by_rows(head: Head, table: &[u32], report: &mut [u32]) -> Reply
     ensures { Asks head Whole table.now report.old report.new result }
 {
     reports::whole_by_rows(head, table, report)

@@ -3,7 +3,7 @@ ghost use Rattle.book.specs.Scale.{lift_of, tip_of};
 ghost use Rattle.book.specs.Calls.{lift};
 ghost use Rattle.posting.specs.Posting.{Posts, Tips};
 
-use book::{Head, Lift, Tip, Tipped, Transferred};
+use book::{Head, Lift, Reply, Tip, Transferred};
 
 #[unsafe(no_mangle)]
 pub extern "C" fn lumchaki_lift(
@@ -34,7 +34,7 @@ pub extern "C" fn lumchaki_tip(
     table: &mut [u32],
     destination: u32,
     minute: u32,
-) -> Tipped
+) -> Reply
     ensures { Tips head (tip_of destination minute) table.old table.new result }
 {
     posting::tip(

@@ -16,7 +16,7 @@ use Rattle.book.specs.declared.Lift.{Lift}
 use Rattle.book.specs.declared.Tip.{Tip}
 use Rattle.book.specs.declared.Motion.{Motion}
 use Rattle.book.specs.declared.Transferred.{Transferred}
-use Rattle.book.specs.declared.Tipped.{Tipped}
+use Rattle.book.specs.declared.Reply.{Reply}
 use Rattle.book.specs.Head.{Book, the_scale, most_vessels, most_holders, Sized, balance_at, book_of}
 use Rattle.book.specs.Motion.{Standing, of_book, of_head, takes, pieces_after}
 use Rattle.book.specs.Transfer.{transfer_checks, motion_of}
@@ -256,7 +256,7 @@ module _ (h : Head) (y : Tip) where
             let q = p.refused (λ z. omega (arith, e, z)) in
             rw (q.1) (tips_refusal h t y (suc n) r (tip_own w ∙ sym e) (λ z. omega (arith, z)) (q.0 ∙ sym e))
 
-    pub tip_posts : (z : Tipped) → z ≡ tipped h r → PostsAny (λ g. tip_checks g y) (λ weight. tip_motion weight y) (λ _. as_they_lie) h t t' r → Tips h y t t' z
+    pub tip_posts : (z : Reply) → z ≡ tipped h r → PostsAny (λ g. tip_checks g y) (λ weight. tip_motion weight y) (λ _. as_they_lie) h t t' r → Tips h y t t' z
     tip_posts z ez p = rw ez (go (first (book_checks h t)) refl)
       where
         go : (n : ℕ) → n ≡ first (book_checks h t) → Tips h y t t' (tipped h r)

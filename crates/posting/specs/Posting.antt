@@ -8,7 +8,7 @@ use Rattle.book.specs.declared.Head.{Head}
 use Rattle.book.specs.declared.Motion.{Motion}
 use Rattle.book.specs.declared.Transferred.{Transferred}
 use Rattle.book.specs.declared.Tip.{Tip}
-use Rattle.book.specs.declared.Tipped.{Tipped}
+use Rattle.book.specs.declared.Reply.{Reply}
 use Rattle.book.specs.Motion.{Standing, of_head}
 use Rattle.book.specs.Calls.{Call, tip}
 use Rattle.book.specs.Memory.{book_checks, call_on}
@@ -38,7 +38,7 @@ abbrev pub transferred : Head → Result Carried Refusal → Transferred
 transferred h (Ok c) = record { number = 0; head = c.head; whole = c.whole; split = c.split; born = c.born }
 transferred h (Err why) = refused_with h (number_of why)
 
-abbrev pub tipped : Head → Result Carried Refusal → Tipped
+abbrev pub tipped : Head → Result Carried Refusal → Reply
 tipped h (Ok c) = record { number = 0; head = c.head }
 tipped h (Err why) = record { number = number_of why; head = h }
 
@@ -47,6 +47,6 @@ pub record Posts (h : Head) (c : Call) (t t' : List ℕ) (r : Transferred) : Typ
   pub answer : r ≡ Memory.transferred (call_on h t c)
   pub table : t' ≡ (call_on h t c).table
 
-pub record Tips (h : Head) (y : Tip) (t t' : List ℕ) (r : Tipped) : Type 0 where
-  pub answer : r ≡ Memory.tipped (call_on h t (tip y))
+pub record Tips (h : Head) (y : Tip) (t t' : List ℕ) (r : Reply) : Type 0 where
+  pub answer : r ≡ Memory.replied (call_on h t (tip y))
   pub table : t' ≡ (call_on h t (tip y)).table

@@ -11,7 +11,7 @@ ghost use Rattle.book.specs.Calls.{post, lift};
 ghost use Rattle.carrying.specs.Carrying.{Audited, Carriable};
 ghost use Rattle.posting.specs.Posting.{PostsKnown, PostsAny, transferred, tipped, Posts, Tips};
 
-use book::{Head, Lift, Motion, Tip, Tipped, Transfer, Transferred};
+use book::{Head, Lift, Motion, Reply, Tip, Transfer, Transferred};
 use carrying::Carried;
 use ledger::audit;
 use moving::Workspace;
@@ -91,15 +91,15 @@ fn transferred(head: Head, posted: Result<Carried, Refusal>) -> Transferred
 }
 
 // What is answered to a tip.
-fn tipped(head: Head, posted: Result<Carried, Refusal>) -> Tipped
+fn tipped(head: Head, posted: Result<Carried, Refusal>) -> Reply
     ensures { result ≡ tipped head posted }
 {
     match posted {
-        Ok(carried) => Tipped {
+        Ok(carried) => Reply {
             number: 0,
             head: carried.head,
         },
-        Err(why) => Tipped {
+        Err(why) => Reply {
             number: u32::from(why),
             head,
         },
@@ -134,7 +134,7 @@ pub fn lift(head: Head, table: &mut [u32], x: Lift) -> Transferred
 }
 
 // All that is on the scale tipped into a vessel at a minute.
-pub fn tip(head: Head, table: &mut [u32], y: Tip) -> Tipped
+pub fn tip(head: Head, table: &mut [u32], y: Tip) -> Reply
     ensures { Tips head y table.old table.new result }
 {
     tipped(head, post(head, table, y))

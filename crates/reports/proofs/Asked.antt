@@ -10,7 +10,7 @@ use Rattle.refusal.specs.Refusals as Refusals
 use Rattle.refusal.proofs.Numbers.{past}
 use Rattle.refusal.proofs.Refusals.{some_number}
 use Rattle.book.specs.declared.Head.{Head}
-use Rattle.book.specs.declared.Reported.{Reported}
+use Rattle.book.specs.declared.Reply.{Reply}
 use Rattle.book.specs.Head.{the_scale, Sized, book_of}
 use Rattle.book.specs.Motion.{Standing, of_head, loaded}
 use Rattle.book.specs.Calls.{ask, meaning}
@@ -68,7 +68,7 @@ module _ (h : Head) (t : List ℕ) (q : Report) (room : List ℕ) where
           let bare : held the_scale (pieces_of h.pieces t) ≡ 0 = omega (arith, ltb-false 0 (held the_scale (pieces_of h.pieces t)) own.0) in
           record { few = book.sound.vessels_fit; holders = in_vessels _ _ _ pieces bare; origins = all_map (λ p f. f.origin_in) pieces; light = book.light.light }
 
-      pub asked_accepted : (z : Reported) → z ≡ record { number = 0; head = h } → (r : List ℕ) → r ≡ onto (report_row h.vessels (pieces_of h.pieces t) q) room → Asks h q t room r z
+      pub asked_accepted : (z : Reply) → z ≡ record { number = 0; head = h } → (r : List ℕ) → r ≡ onto (report_row h.vessels (pieces_of h.pieces t) q) room → Asks h q t room r z
       unfolding call_on
       asked_accepted z ez r er = record { answer = rw passed_all (ez ∙ rw (← book.on.head_is) refl); room = rw passed_all er }
 
@@ -77,7 +77,7 @@ asked_square h t room n e zn = whole_room h.vessels (length room) Whole refl (as
 
 -- EITHER WAY: the promise leaves nothing open, so that two functions that keep it give the same answer and leave the same numbers. `whole` and
 -- `whole_by_rows` are such two.
-pub either_way : {h : Head} {q : Report} {t room r r' : List ℕ} {z z' : Reported} → Asks h q t room r z → Asks h q t room r' z' → (z ≡ z') × (r ≡ r')
+pub either_way : {h : Head} {q : Report} {t room r r' : List ℕ} {z z' : Reply} → Asks h q t room r z → Asks h q t room r' z' → (z ≡ z') × (r ≡ r')
 either_way a b = (a.answer ∙ sym b.answer, a.room ∙ sym b.room)
 
 -- REPORTS CHANGE NOTHING: refused or accepted, the head and the table are as they were.

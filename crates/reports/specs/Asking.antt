@@ -3,10 +3,10 @@
 use Rattle.std.specs.Prelude.{◌≡◌, List, ℕ}
 use Rattle.book.specs.declared.Head.{Head}
 use Rattle.book.specs.declared.Report.{Report}
-use Rattle.book.specs.declared.Reported.{Reported}
+use Rattle.book.specs.declared.Reply.{Reply}
 use Rattle.book.specs.Head.{Sized}
 use Rattle.book.specs.Calls.{ask}
-use Rattle.book.specs.Memory.{number_of, call_on, reported}
+use Rattle.book.specs.Memory.{number_of, call_on, replied}
 
 -- What all its checks find: the number of the call; and, whatever that is, the head's numbers fit 32 bits.
 pub record Judged (h : Head) (q : Report) (t r : List ℕ) (n : ℕ) : Type 0 where
@@ -14,6 +14,6 @@ pub record Judged (h : Head) (q : Report) (t r : List ℕ) (n : ℕ) : Type 0 wh
   pub sized : Sized h
 
 -- What it promises: its answer and every number of the room are those of the call.
-pub record Asks (h : Head) (q : Report) (t r r' : List ℕ) (z : Reported) : Type 0 where
-  pub answer : z ≡ reported (call_on h t (ask q r))
+pub record Asks (h : Head) (q : Report) (t r r' : List ℕ) (z : Reply) : Type 0 where
+  pub answer : z ≡ replied (call_on h t (ask q r))
   pub room : r' ≡ (call_on h t (ask q r)).room

@@ -9,7 +9,7 @@ ghost use Rattle.book.specs.declared.Report.TheVariants.{Held, Spread, Whole};
 ghost use Rattle.book.specs.Reports.{report_checks};
 ghost use Rattle.reports.specs.Asking.{Judged, Asks};
 
-use book::{Head, Report, Reported};
+use book::{Head, Reply, Report};
 use ledger::audit;
 use refusal::Refusal;
 
@@ -56,15 +56,15 @@ fn check(head: Head, table: &[u32], asked: Report, room: &[u32]) -> Result<(), R
 }
 
 // What is asked of the book, written to the room.
-pub fn report(head: Head, table: &[u32], asked: Report, room: &mut [u32]) -> Reported
+pub fn report(head: Head, table: &[u32], asked: Report, room: &mut [u32]) -> Reply
     ensures { Asks head asked table.now room.old room.new result }
 {
     match check(head, table, asked, room) {
         Ok(()) => {
             filling::fill(table, head.pieces as usize, head.vessels, asked, room);
-            Reported { number: 0, head }
+            Reply { number: 0, head }
         }
-        Err(why) => Reported {
+        Err(why) => Reply {
             number: u32::from(why),
             head,
         },
@@ -72,43 +72,36 @@ pub fn report(head: Head, table: &[u32], asked: Report, room: &mut [u32]) -> Rep
 }
 
 // The weight by origin in a vessel.
-pub fn held(head: Head, table: &[u32], vessel: u32, room: &mut [u32]) -> Reported
+pub fn held(head: Head, table: &[u32], vessel: u32, room: &mut [u32]) -> Reply
     ensures { Asks head (Held vessel) table.now room.old room.new result }
 {
     report(head, table, Report::Held(vessel), room)
 }
 
 // The weight in each vessel that was born at an origin from a minute to a minute.
-pub fn spread(
-    head: Head,
-    table: &[u32],
-    origin: u32,
-    from: u32,
-    to: u32,
-    room: &mut [u32],
-) -> Reported
+pub fn spread(head: Head, table: &[u32], origin: u32, from: u32, to: u32, room: &mut [u32]) -> Reply
     ensures { Asks head (Spread origin from to) table.now room.old room.new result }
 {
     report(head, table, Report::Spread(origin, from, to), room)
 }
 
 // The held reports of all vessels, one row behind the other, in one pass over the pieces.
-pub fn whole(head: Head, table: &[u32], room: &mut [u32]) -> Reported
+pub fn whole(head: Head, table: &[u32], room: &mut [u32]) -> Reply
     ensures { Asks head Whole table.now room.old room.new result }
 {
     report(head, table, Report::Whole, room)
 }
 
 // The same, row by row: each is made by the held report of its vessel.
-pub fn whole_by_rows(head: Head, table: &[u32], room: &mut [u32]) -> Reported
+pub fn whole_by_rows(head: Head, table: &[u32], room: &mut [u32]) -> Reply
     ensures { Asks head Whole table.now room.old room.new result }
 {
     match check(head, table, Report::Whole, room) {
         Ok(()) => {
             filling::fill_rows(table, head.pieces as usize, head.vessels, room);
-            Reported { number: 0, head }
+            Reply { number: 0, head }
         }
-        Err(why) => Reported {
+        Err(why) => Reply {
             number: u32::from(why),
             head,
         },

@@ -5,7 +5,7 @@ use Rattle.std.proofs.lemmas.List.Edits.{sets}
 use Rattle.std.specs.Io.KnownBytes.{Appends}
 use Rattle.std.specs.declared.option.Option.{Option}
 use Rattle.std.specs.declared.result.Result.{Result}
-use Rattle.book.specs.declared.Opened.{Opened}
+use Rattle.book.specs.declared.Reply.{Reply}
 use Rattle.journal.specs.Carried.{carry_number, CarriesOut}
 use Rattle.text.specs.Numbers.{numbers_in}
 use Rattle.vectors.specs.Vectors.{space, vessels, table_room, answers_room, report_room, calls_room, unwritten, numbers_text, numbers_line, carried_listing, calls_listing}
@@ -47,7 +47,7 @@ unfolding numbers_text
 none_yet ns old = appends_none old
 
 -- what is shown of a list of calls
-carried_shown : (rule : ℕ) (calls : List ℕ) (r : Opened) (t answers room : List ℕ)
+carried_shown : (rule : ℕ) (calls : List ℕ) (r : Reply) (t answers room : List ℕ)
     → CarriesOut rule vessels calls (replicate table_room 0) (replicate answers_room unwritten) (replicate report_room unwritten) r t answers room
     → numbers_line answers ++ numbers_line room ≡ carried_listing rule calls
 carried_shown rule calls r t answers room w = go (carry_number rule vessels calls (replicate answers_room unwritten)) refl
@@ -58,7 +58,7 @@ carried_shown rule calls r t answers room w = go (carry_number rule vessels call
 
 pub calls_shown : (text numbers : List ℕ) (count : ℕ) → count ≡ min (length (numbers_in text)) (1 + calls_room)
     → numbers ≡ sets (replicate (1 + calls_room) 0) 0 (numbers_in text) → (rule : ℕ) (calls : List ℕ)
-    → (rule ≡ get_or (take count numbers) 0 0) × (calls ≡ drop 1 (take count numbers)) → (r : Opened) (t answers room : List ℕ)
+    → (rule ≡ get_or (take count numbers) 0 0) × (calls ≡ drop 1 (take count numbers)) → (r : Reply) (t answers room : List ℕ)
     → CarriesOut rule vessels calls (replicate table_room 0) (replicate answers_room unwritten) (replicate report_room unwritten) r t answers room
     → numbers_line answers ++ numbers_line room ≡ calls_listing text
 calls_shown text numbers count ec en rule calls (er, em) r t answers room w =
