@@ -173,14 +173,14 @@ module _ (h : Head) (x : Transfer) where
   holders_in : h.vessels ≤ most_vessels → first (transfer_checks (of_head h) x) ≡ 0 → (x.source < most_holders) × (x.destination < most_holders)
   holders_in few z = let f = transfer_fit z in (omega (arith, f.source_in), omega (arith, f.destination_in))
 
-  module _ (t t' : List ℕ) (r : Result Carried Refusal) (z : Transferred) (ez : z ≡ transferred h r) where
-    pub transfer_known_posts : Audited h t → PostsKnown (λ g. transfer_checks g x) (λ _. motion_of x) (λ rule. rule) h t t' r → Posts h (post x) t t' z
+  module _ (t t' : List ℕ) (r : Result Carried Refusal) where
+    pub transfer_known_posts : Audited h t → PostsKnown (λ g. transfer_checks g x) (λ _. motion_of x) (λ rule. rule) h t t' r → Posts h (post x) t t' (transferred h r)
     unfolding transfer_checks
-    transfer_known_posts w p = rw ez (posts_known h t (post x) (λ g. transfer_checks g x) (motion_of x) refl (λ g. tt) holders_in t' r w p)
+    transfer_known_posts w p = posts_known h t (post x) (λ g. transfer_checks g x) (motion_of x) refl (λ g. tt) holders_in t' r w p
 
-    pub transfer_posts : PostsAny (λ g. transfer_checks g x) (λ _. motion_of x) (λ rule. rule) h t t' r → Posts h (post x) t t' z
+    pub transfer_posts : (z : Transferred) → z ≡ transferred h r → PostsAny (λ g. transfer_checks g x) (λ _. motion_of x) (λ rule. rule) h t t' r → Posts h (post x) t t' z
     unfolding transfer_checks
-    transfer_posts p = rw ez (posts_any h t (post x) (λ g. transfer_checks g x) (motion_of x) refl (λ g. tt) holders_in t' r p)
+    transfer_posts z ez p = rw ez (posts_any h t (post x) (λ g. transfer_checks g x) (motion_of x) refl (λ g. tt) holders_in t' r p)
 
 -- A lift: the scale is bare, so that it has room for every weight of 32 bits.
 module _ (h : Head) (x : Lift) where

@@ -112,11 +112,11 @@ pub fn transfer_known(
     table: &mut [u32],
     x: Transfer,
     work: &mut Workspace,
-) -> Transferred
+) -> Result<Carried, Refusal>
     requires { Audited head table.old }
-    ensures { Posts head (post x) table.old table.new result }
+    ensures { Posts head (post x) table.old table.new (transferred head result) }
 {
-    transferred(head, post_known(head, table, x, work))
+    post_known(head, table, x, work)
 }
 
 // A transfer of weight from source to destination at a minute, with the age of what is born.

@@ -14,7 +14,8 @@ use Rattle.book.specs.Memory as Memory
 use Rattle.book.proofs.Memory.{refused_memory}
 use Rattle.book.proofs.Known.{known_up}
 use Rattle.carrying.specs.Carrying.{Audited}
-use Rattle.posting.specs.Posting.{Posts}
+use Rattle.carrying.specs.declared.Carried.{Carried}
+use Rattle.posting.specs.Posting.{Posts, refused_with, transferred}
 use Rattle.book.proofs.After.{known_after, length_after, fresh_known}
 use Rattle.sheet.specs.declared.answer.Movement.{Movement}
 use Rattle.sheet.specs.declared.answer.Reading.{Reading}
@@ -81,7 +82,7 @@ module _ (s : List ℕ) (m : ℕ) (h₀ : Head) (t₀ : List ℕ) (h : Head) (t 
     same_number = ap (λ (z : Transferred). z.number) posts.answer
 
     -- a movement is refused, and ends the run
-    pub going_stop : (made.number ≡ 0 → ⊥) → Gives all t' (record { number = made.number; index = i; even = even; head = h })
+    going_stop : (made.number ≡ 0 → ⊥) → Gives all t' (record { number = made.number; index = i; even = even; head = h })
     going_stop nz = rw (← (here q)) (go o.number same_number (λ u. nz (same_number ∙ u)))
       where
         go : (n : ℕ) → made.number ≡ n → (n ≡ 0 → ⊥)
@@ -91,10 +92,10 @@ module _ (s : List ℕ) (m : ℕ) (h₀ : Head) (t₀ : List ℕ) (h : Head) (t 
 
     -- it is accepted, and the run goes on
     module _ (z : made.number ≡ 0) (one : ℕ) (eo : (one ≡ if_zero (made.split + made.born) 1 0) × (one ≤ 1)) where
-      pub going_counts : even + one ≤ m
+      going_counts : even + one ≤ m
       going_counts = omega (arith, g.some_even, eo.1)
 
-      pub going_next : Going s m h₀ t₀ made.head t' (even + one) (i + 1)
+      going_next : Going s m h₀ t₀ made.head t' (even + one) (i + 1)
       going_next =
           let known = known_up h t g.audited.sized g.audited.book_adds_up in
           let u = known_after h t known (transfer_at s i) in
@@ -111,6 +112,14 @@ module _ (s : List ℕ) (m : ℕ) (h₀ : Head) (t₀ : List ℕ) (h : Head) (t 
             left = rw (add-one, es, posts.answer, posts.table) (rw (n, add-one) at (here q));
             table_length = rw (posts.table, v) g.table_length;
           }
+
+  -- the two arms of a movement
+  module _ (t' : List ℕ) (q : i < m) (r : Result Carried Refusal) (posts : Posts h (post (transfer_at s i)) t t' (transferred h r)) where
+    pub going_refused : (why : Refusal) → r ≡ Err why → (n : ℕ) → n ≡ number_of why → Gives all t' (record { number = n; index = i; even = even; head = h })
+    going_refused why e n en = rw en (going_stop (refused_with h (number_of why)) t' q (rw e at posts) (some_number why))
+
+    pub going_on : (c : Carried) → r ≡ Ok c → (one : ℕ) → (one ≡ if_zero (c.split + c.born) 1 0) × (one ≤ 1) → Going s m h₀ t₀ c.head t' (even + one) (i + 1)
+    going_on c e one eo = going_next (transferred h (Ok c)) t' q (rw e at posts) refl one eo
 
   -- all are made
   pub going_end : m ≤ i → Gives all t (record { number = 0; index = i; even = even; head = h })

@@ -6,11 +6,12 @@ ghost use Rattle.refusal.specs.Numbers.{if_zero};
 ghost use Rattle.refusal.specs.Refusals.{number_of};
 ghost use Rattle.book.specs.Calls.{post};
 ghost use Rattle.carrying.specs.Carrying.{Audited};
-ghost use Rattle.posting.specs.Posting.{Posts};
+ghost use Rattle.posting.specs.Posting.{transferred, Posts};
 ghost use Rattle.sheet.specs.Sheet.{movements_of, read_number};
 ghost use Rattle.run.specs.Run.{transfer_at, transfers_of, not_run, Gives, run_from, running, Runnable, Checked};
 
-use book::{Head, Transfer, Transferred};
+use book::{Head, Transfer};
+use carrying::Carried;
 use moving::Workspace;
 use refusal::Refusal;
 use sheet::answer::Header;
@@ -39,16 +40,22 @@ fn refused(why: Refusal) -> Ran
 }
 
 // 1 for a transfer without split or birth.
-fn count_even(made: Transferred) -> u32
+fn count_even(made: Carried) -> u32
     ensures { (result ≡ if_zero (made.split + made.born) 1 0) × (result ≤ 1) }
 {
     u32::from(made.split == 0 && made.born == 0)
 }
 
 // Movement i is made.
-fn make(sheet: &[u8], i: u32, head: Head, table: &mut [u32], work: &mut Workspace) -> Transferred
+fn make(
+    sheet: &[u8],
+    i: u32,
+    head: Head,
+    table: &mut [u32],
+    work: &mut Workspace,
+) -> Result<Carried, Refusal>
     requires { (read_number sheet.now ≡ 0) × (i < movements_of sheet.now) × Audited head table.old }
-    ensures { Posts head (post (transfer_at sheet.now i)) table.old table.new result }
+    ensures { Posts head (post (transfer_at sheet.now i)) table.old table.new (transferred head result) }
 {
     let m = sheet::movement_known(sheet, i);
     let x = Transfer {
@@ -70,17 +77,20 @@ fn make_all(sheet: &[u8], movements: u32, fresh: Head, table: &mut [u32]) -> Ran
     let mut head = fresh;
     let mut even = 0;
     for i in 0..movements {
-        let made = make(sheet, i, head, table, &mut work);
-        if made.number != 0 {
-            return Ran {
-                number: made.number,
-                index: i,
-                even,
-                head,
-            };
+        match make(sheet, i, head, table, &mut work) {
+            Ok(made) => {
+                even += count_even(made);
+                head = made.head;
+            }
+            Err(why) => {
+                return Ran {
+                    number: u32::from(why),
+                    index: i,
+                    even,
+                    head,
+                };
+            }
         }
-        even += count_even(made);
-        head = made.head;
     }
     Ran {
         number: 0,

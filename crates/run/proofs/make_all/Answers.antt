@@ -1,13 +1,13 @@
 -- `make_all`: what its invariant leaves to show. A turn makes one movement.
 use Rattle.std.proofs.Common.{rules}
-use Rattle.run.proofs.RunLaws.{going_stop, going_next, going_end}
+use Rattle.run.proofs.RunLaws.{going_refused, going_on, going_end}
 use Rattle.run.proofs.make_all.Goals as goal
 
 pub loop-i-preserved : goal.loop-i-preserved
-loop-i-preserved c = search (rules, going_next)
+loop-i-preserved c = going_on _ _ _ _ _ _ _ _ c.loop-i.invariant c.requires _ c.loop-i-test.true _ c.make.ensures _ c.in-Ok.is _ c.count_even-even.ensures
 
-pub returns-then-made-ne0 : goal.returns-then-made-ne0
-returns-then-made-ne0 c = search (rules, going_stop)
+pub returns-in-Err : goal.returns-in-Err
+returns-in-Err c = going_refused _ _ _ _ _ _ _ _ c.loop-i.invariant c.requires _ c.loop-i-test.true _ c.make.ensures _ c.in-Err.is _ c.from.ensures
 
 pub returns : goal.returns
 returns c = search (rules, going_end)
