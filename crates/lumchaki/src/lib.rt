@@ -52,12 +52,7 @@ pub extern "C" fn lumchaki_transfer(
 }
 
 #[unsafe(no_mangle)]
-pub extern "C" fn lumchaki_held(
-    head: Head,
-    table: &[u32],
-    vessel: u32,
-    report: &mut [u32],
-) -> Reply
+pub extern "C" fn lumchaki_held(head: Head, table: &[u32], vessel: u32, report: &mut [u32]) -> Reply
     ensures { Asks head (Held vessel) table.now report.old report.new result }
 {
     reports::held(head, table, vessel, report)
