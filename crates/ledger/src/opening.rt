@@ -18,8 +18,8 @@ pub fn empty_head(rule: u32, vessels: u32) -> Head
     ensures { result ≡ empty_head rule vessels }
 {
     Head {
-        rule: rule,
-        vessels: vessels,
+        rule,
+        vessels,
         pieces: 0,
         last: 0,
         accepted: 0,

@@ -38,17 +38,14 @@ pub extern "C" fn lumchaki_transfer(
 ) -> Transferred
     ensures { Posts head (post (transfer_of source destination minute weight age)) table.old table.new result }
 {
-    posting::transfer(
-        head,
-        table,
-        Transfer {
-            source: source,
-            destination: destination,
-            minute: minute,
-            weight: weight,
-            age: age,
-        },
-    )
+    let x = Transfer {
+        source,
+        destination,
+        minute,
+        weight,
+        age,
+    };
+    posting::transfer(head, table, x)
 }
 
 #[unsafe(no_mangle)]

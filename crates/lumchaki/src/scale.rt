@@ -16,16 +16,13 @@ pub extern "C" fn lumchaki_lift(
 ) -> Transferred
     ensures { Posts head (lift (lift_of source minute weight age)) table.old table.new result }
 {
-    posting::lift(
-        head,
-        table,
-        Lift {
-            source: source,
-            minute: minute,
-            weight: weight,
-            age: age,
-        },
-    )
+    let x = Lift {
+        source,
+        minute,
+        weight,
+        age,
+    };
+    posting::lift(head, table, x)
 }
 
 #[unsafe(no_mangle)]
@@ -37,12 +34,9 @@ pub extern "C" fn lumchaki_tip(
 ) -> Reply
     ensures { Tips head (tip_of destination minute) table.old table.new result }
 {
-    posting::tip(
-        head,
-        table,
-        Tip {
-            destination: destination,
-            minute: minute,
-        },
-    )
+    let y = Tip {
+        destination,
+        minute,
+    };
+    posting::tip(head, table, y)
 }
