@@ -20,7 +20,7 @@ FNR == 1 {
     split(file, part, "/")
     crate_of[file] = part[2]
     side = part[3]
-    head = module = ""
+    head = module = owner = ""
     block = modules = 0
 }
 
@@ -53,22 +53,39 @@ function import(line,    at, from, n, i, names) {
     for (i = 1; i <= n; i++) imported[file, names[i]] = "crates/" from ".antt"
 }
 
-# A line of Rattle. The head of a public function goes on to the brace that opens its body, a type to the brace that closes it.
+# A line of Rattle. The head of a public function goes on to the brace that opens its body, a type to the brace that closes it. A method has
+# the name of its type before its own; of an impl of a trait the ghost members are shown, which say what its methods do.
 function code(line,    at) {
+    if (line ~ /^impl/) owner = owner_of(line)
+    if (line ~ /^[}]/) owner = ""
     sub(/^ +/, "", line)
     sub(/ *\/\/.*/, "", line)
-    if (head == "" && line !~ /^pub ((extern "C" )?fn|struct|enum) /) return
+    if (head == "" && line !~ /^pub ((extern "C" )?fn|struct|enum) / && !(owner ~ / for / && line ~ /^ghost [A-Za-z_]+ = /)) return
     head = head == "" ? line : head " " line
     if (line !~ /[{}]/) return
     if (head ~ /^pub (struct|enum)/) {
         if (!closing(head, index(head, "{"))) return
         keep("type", head)
+    } else if (head ~ /^ghost/) {
+        if (!closing(head, index(head, "{"))) return
+        sub(/ = [{]/, " {", head)
+        keep("function", "impl " owner " " head)
     } else {
         at = body_at(head)
         if (!at) return
-        keep("function", substr(head, 1, at - 1))
+        head = substr(head, 1, at - 1)
+        if (owner != "") sub(/fn /, "fn " owner "::", head)
+        keep("function", head)
     }
     head = ""
+}
+
+# What an impl is of: a type, or a trait for a type.
+function owner_of(line) {
+    sub(/^impl(<[^>]*>)? /, "", line)
+    sub(/ *[{].*/, "", line)
+    if (line !~ / for /) sub(/<.*/, "", line)
+    return line
 }
 
 # Where the brace is that opens a function's body: the first that opens no clause. 0 if it is still to come.
