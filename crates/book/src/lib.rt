@@ -28,7 +28,7 @@ pub struct Head {
     pub scale: u32,
 }
 
-// What opening, a tip and a report answer.
+// What opening, a tip and a report answer. C gets it by value, as all answers here, so that a number tells a refusal: `Result` has no layout there.
 #[repr(C)]
 #[derive(Clone, Copy, Debug, PartialEq, Eq)]
 pub struct Reply {

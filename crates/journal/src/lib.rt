@@ -15,6 +15,7 @@ use refusal::Refusal;
 // A call is six numbers: its kind and its arguments.
 pub const CALL_SIZE: usize = 6;
 
+// The kinds of a call, by their numbers in a list.
 const TRANSFER: u32 = 0;
 
 const HELD: u32 = 1;

@@ -6,7 +6,7 @@ use book::{Head, Lift, Motion, Tip};
 use ledger::balances;
 use refusal::Refusal;
 
-// Rule 0: the pieces on the scale leave it in the order they lie.
+// Rule 0, as a head has its number: the pieces on the scale leave it in the order they lie.
 const AS_THEY_LIE: u32 = 0;
 
 impl Posting for Lift {

@@ -1,4 +1,4 @@
--- The ways out of `try_rewrite`: the sheet's own number; or what was read is written, where only the room may be short, and what is written is the sheet.
+-- The ways out of `rewrite`: the sheet's own number; or what was read is written, where only the room may be short, and what is written is the sheet.
 -- Assumes nothing.
 use Rattle.std.proofs.Common.{ℕ, ◌+◌, ◌*◌, ◌-◌, ◌≤◌, arith, ◌≡◌, refl, sym, ◌∙◌, List, ◌++◌, ltb, length, take, drop, replicate, take_at}
 use native.Mathlib.Nat.{add-sub_cancel_left}
@@ -24,11 +24,11 @@ use Rattle.roundtrip.specs.Rewriting.{names_of, numbers_of, rewrite_number, rewr
 use Rattle.roundtrip.proofs.ReadRewrites as again
 use Rattle.roundtrip.proofs.RoundTrip.{read_rewrites}
 
--- The memory that `try_rewrite` lends for the numbers: large enough for any sheet.
+-- The memory that `rewrite` lends for the numbers: large enough for any sheet.
 abbrev pub memory : List ℕ
 memory = replicate (given_size * most_movements) 0
 
--- What `try_rewrite` gives back and leaves.
+-- What `rewrite` gives back and leaves.
 abbrev pub Again : List ℕ → List ℕ → ℕ → List ℕ → Type 0
 Again s out n out' = (n ≡ rewrite_number s (length out)) × (out' ≡ rewritten s out)
 

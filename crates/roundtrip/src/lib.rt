@@ -42,7 +42,7 @@ fn take_numbers(sheet: &[u8], movements: u32, numbers: &mut [u32])
 }
 
 // Reads a sheet and writes what was read at the start of `out`: the same bytes, byte for byte.
-fn try_rewrite(sheet: &[u8], out: &mut [u8]) -> Result<(), Refusal>
+pub fn rewrite(sheet: &[u8], out: &mut [u8]) -> Result<(), Refusal>
     ensures number { outcome_number result ≡ rewrite_number sheet.now (length out.old) }
     ensures bytes { out.new ≡ rewritten sheet.now out.old }
 {
@@ -58,12 +58,4 @@ fn try_rewrite(sheet: &[u8], out: &mut [u8]) -> Result<(), Refusal>
         &room[..count],
         out,
     )
-}
-
-// The same, answered by a number.
-pub fn rewrite(sheet: &[u8], out: &mut [u8]) -> u32
-    ensures number { result ≡ rewrite_number sheet.now (length out.old) }
-    ensures bytes { out.new ≡ rewritten sheet.now out.old }
-{
-    refusal::number(try_rewrite(sheet, out))
 }

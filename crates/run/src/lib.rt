@@ -17,7 +17,7 @@ use refusal::Refusal;
 use sheet::answer::Header;
 
 // What a run yields: the number of the movement that stopped it or 0, that movement's index or the count of all, the even count, and
-// the head after the last accepted movement.
+// the head after the last accepted movement. C gets it by value, so that a number tells a refusal.
 #[repr(C)]
 #[derive(Clone, Copy, Debug, PartialEq, Eq)]
 pub struct Ran {

@@ -2,7 +2,7 @@
 -- That each byte of the sheet is below 256 is known of any slice of bytes.
 use Rattle.std.proofs.Common.{arith, rules, refl}
 use Rattle.roundtrip.proofs.RewriteLaws.{again_refused, take_fits, names_fit, numbers_fit, again_good}
-use Rattle.roundtrip.proofs.try_rewrite.Goals as goal
+use Rattle.roundtrip.proofs.rewrite.Goals as goal
 
 pub returns-in_err-header : goal.returns-in_err-header
 returns-in_err-header c =
