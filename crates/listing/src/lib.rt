@@ -4,8 +4,8 @@
 ghost use Rattle.std.specs.Prelude.{◌*◌, ◌≤◌, length};
 ghost use Rattle.table.specs.Table.{pieces_of};
 ghost use Rattle.text.specs.Writing.{Room, Writes};
-ghost use Rattle.listing.specs.Listing.{first_line, piece_line, piece_lines, refused_line, last_line, book_text, listing_of};
-ghost use Rattle.listing.specs.Listing.{Listed, ListsSheet, first_size, piece_size, last_size, refused_size, room_for, listing_room};
+ghost use Rattle.listing.specs.Listing.{first_line, piece_line, piece_lines, last_line, listing_of};
+ghost use Rattle.listing.specs.Listing.{Listed, ListsSheet, first_size, piece_size, last_size, room_for, listing_room};
 
 use book::Head;
 use run::Ran;
@@ -53,8 +53,7 @@ fn put_pieces(out: &mut Writer, table: &[u32], n: usize)
     ensures { Writes out.old (piece_lines (pieces_of n table.now)) (piece_size * n) out.new }
 {
     for i in 0..n {
-        let p = table::piece_at(table, n, i);
-        put_piece(out, p);
+        put_piece(out, table::piece_at(table, n, i));
     }
 }
 
@@ -70,34 +69,18 @@ fn put_last(out: &mut Writer, index: u32, number: u32)
     }
 }
 
-// The only line of a refused run.
-fn put_refused(out: &mut Writer, number: u32)
-    requires { Room out.old refused_size }
-    ensures { Writes out.old (refused_line number) refused_size out.new }
-{
-    out.put_word(b"refused ", number);
-    out.put_text(b"\n");
-}
-
-// The lines of a run that ended with a book.
-fn put_book(out: &mut Writer, ran: Ran, table: &[u32])
-    requires { (4 * ran.head.pieces ≤ length table.now) × Room out.old (room_for ran.head.pieces) }
-    ensures { Writes out.old (book_text ran (pieces_of ran.head.pieces table.now)) (room_for ran.head.pieces) out.new }
-{
-    put_first(out, ran.head, ran.even);
-    put_pieces(out, table, ran.head.pieces as usize);
-    put_last(out, ran.index, ran.number);
-}
-
-// The lines of a run.
+// The lines of a run, or the only one where it was refused.
 fn put_run(out: &mut Writer, ran: Ran, table: &[u32])
     requires { (4 * ran.head.pieces ≤ length table.now) × Room out.old (room_for ran.head.pieces) }
     ensures { Writes out.old (listing_of ran table.now) (room_for ran.head.pieces) out.new }
 {
     if ran.head.vessels == 0 {
-        put_refused(out, ran.number);
+        out.put_word(b"refused ", ran.number);
+        out.put_text(b"\n");
     } else {
-        put_book(out, ran, table);
+        put_first(out, ran.head, ran.even);
+        put_pieces(out, table, ran.head.pieces as usize);
+        put_last(out, ran.index, ran.number);
     }
 }
 
