@@ -1,6 +1,6 @@
 -- Laws of the lines: those of pieces are written one behind the other, so that a line behind those of the first pieces makes those of
 -- one more; the last line; and the two ways to list a run. Assumes nothing.
-use Rattle.std.proofs.Common.{ℕ, ◌+◌, ◌<◌, ◌≤◌, zero-add, arith, ◌≡◌, refl, sym, ap, ◌∙◌, List, [], ◌∷◌, ◌++◌, append-nil, append_assoc, length, take}
+use Rattle.std.proofs.Common.{ℕ, ◌+◌, ◌<◌, ◌≤◌, zero-add, arith, ◌≡◌, sym, ap, ◌∙◌, List, [], ◌∷◌, ◌++◌, append-nil, append_assoc, length, take}
 use Rattle.std.proofs.lemmas.List.{take_all, take_more}
 use lib.Seq.{sets-eq}
 use Rattle.refusal.proofs.Numbers.{not_zero}
