@@ -6,7 +6,8 @@ use Rattle.std.proofs.lemmas.Fmt.{decimal_digit, decimal_step}
 use borrow.Author.Tests.{ltb-true, ltb-false}
 use native.Mathlib.Nat.{pow-succ'}
 use Rattle.refusal.specs.Numbers.{TOP}
-use Rattle.text.specs.Text.{Put}
+use Rattle.text.specs.Writing.{Written, Writes}
+use Rattle.text.specs.declared.Writer.{Writer}
 use Rattle.text.specs.Digits.{last_digit, digits, decimal}
 use Rattle.text.proofs.TextLaws.{no_digits, more_digits, ten_digits}
 
@@ -73,10 +74,9 @@ unfolding decimal digits
 decimal_printed zero h = sym (decimal_digit 0 (omega arith))
 decimal_printed (suc n) h = sym (more_digits 9 (suc n) (omega arith)) ∙ printed_digits 10 (suc n) (omega arith) (omega arith) (omega arith)
 
--- a number's text that was put: no longer than it may be
-pub number_put : {l l' : List ℕ} {at r : ℕ} (n : ℕ) (text bytes : List ℕ) → n < 2 ^ 32 → text ≡ printed n → bytes ≡ text → Put l at bytes r l'
-    → Put l at (decimal n) r l' × (r ≤ at + 10)
-number_put {l} {l'} {at} {r} n text bytes h e d p =
+-- a number's text that was written: no longer than it may be
+pub number_written : {w w' : Writer} (n : ℕ) (text bytes : List ℕ) → n < 2 ^ 32 → text ≡ printed n → bytes ≡ text → Written w bytes w' → Writes w (decimal n) 10 w'
+number_written {w} {w'} n text bytes h e d p =
     let same : bytes ≡ decimal n = d ∙ e ∙ sym (decimal_printed n (omega arith)) in
     let q = rw same at p in
-    (q, omega (arith, ten_digits n, q.next_is))
+    (q, omega (arith, ten_digits n, q.put.next_is))

@@ -1,22 +1,17 @@
--- Laws of texts put one behind the other, and of how many digits a number has.
+-- Laws of texts written one behind the other, and of how many digits a number has.
 -- Assumes nothing.
 use Rattle.std.proofs.Common.{ℕ, zero, suc, ◌+◌, ◌-◌, ◌/◌, ◌<◌, ◌≤◌, arith, ◌≡◌, refl, sym, ◌∙◌, List, [], ◌∷◌, ◌++◌, length, length-append, set, add-zero, ap}
 use Rattle.std.proofs.lemmas.Slice.{put_mid-paste}
-use lib.Seq.{sets, sets-eq, take-length}
+use lib.Seq.{sets, sets-eq, length-sets, take-length}
 use borrow.Rule.Slice.PartMut.{put_mid}
 use Rattle.text.specs.Digits.{last_digit, digits, decimal}
 use Rattle.text.specs.Text.{Put}
+use Rattle.text.specs.Writing.{Written, Writes}
+use Rattle.text.specs.declared.Writer.{Writer}
 
 pub sets_append : (a b l : List ℕ) (i : ℕ) → sets l i (a ++ b) ≡ sets (sets l i a) (i + length a) b
 sets_append [] b l i = rw add-zero
 sets_append (x ∷ a) b l i = sets_append a b (set l i x) (suc i) ∙ ap (λ (k : ℕ). sets (sets (set l i x) (suc i) a) k b) (omega arith)
-
--- two texts put one behind the other are one
-pub then : {l l₁ l₂ a b : List ℕ} {at i j : ℕ} → Put l at a i l₁ → Put l₁ i b j l₂ → Put l at (a ++ b) j l₂
-then {l} {l₁} {l₂} {a} {b} {at} {i} {j} p q = record {
-  next_is = rw length-append (omega (arith, p.next_is, q.next_is));
-  after_is = q.after_is ∙ rw (sets_append, p.after_is, p.next_is);
-}
 
 pub no_digits : (k : ℕ) → digits k 0 ≡ []
 unfolding digits
@@ -43,5 +38,17 @@ pub ten_digits : (n : ℕ) → length (decimal n) ≤ 10
 unfolding decimal
 ten_digits n = rw length-append (omega (arith, few_digits 9 (n / 10)))
 
-pub word_put : {l l₁ l₂ a b : List ℕ} {at i j : ℕ} → Put l at a i l₁ → Put l₁ i b j l₂ × (j ≤ i + 10) → Put l at (a ++ b) j l₂ × (j ≤ at + length a + 10)
-word_put p q = (then p q.0, omega (arith, p.next_is, q.1))
+-- nothing is written
+pub none_written : (w : Writer) (size : ℕ) → Writes w [] size w
+none_written w size = (record { same_bytes = refl; same_length = refl; put = record { next_is = sym (add-zero _); after_is = refl } }, omega arith)
+
+-- a text is put where the writer is
+pub text_written : {w w' : Writer} {text : List ℕ} → w'.out.ghost_name ≡ w.out.ghost_name → Put w.out.now w.at text w'.at w'.out.now → Written w text w'
+text_written {w} {w'} {text} e p = record { same_bytes = e; same_length = ap length p.after_is ∙ length-sets w.out.now w.at text; put = p }
+
+-- two texts written one behind the other are one
+pub then_written : {w w₁ w₂ : Writer} {a b : List ℕ} → Written w a w₁ → Written w₁ b w₂ → Written w (a ++ b) w₂
+then_written p q = text_written (q.same_bytes ∙ p.same_bytes) (record {
+  next_is = rw length-append (omega (arith, p.put.next_is, q.put.next_is));
+  after_is = q.put.after_is ∙ rw (sets_append, p.put.after_is, p.put.next_is);
+})

@@ -1,3 +1,4 @@
 pub mod Digits
 pub mod Text
 pub mod Numbers
+pub mod Writing
