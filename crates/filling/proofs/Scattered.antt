@@ -1,26 +1,18 @@
 -- A report filled in one pass: over numbers that are 0 at first, each becomes the sum of its kind, and the numbers behind stay.
 -- Shown once for any test and any index, so that held, spread and whole are instances.
 -- Assumes nothing.
-use Rattle.std.proofs.Common.{◌≡◌, refl, sym, ap, ◌∙◌, Bool, true, false, ◌&&◌, cond, List, [], ◌∷◌, ◌++◌, ℕ, zero, suc, ◌+◌, ◌-◌, ◌≤◌, ◌<◌, not-suc-le-zero, le_of_suc-le-suc, add-one, append-nil, arith, ltb, eqb, length, get_or, drop, replicate, length-set, length-append, length-drop, drop_of_length-le, drop-cons, get_or-set_same, get_or-set_other, ext_get_or, get_or-append-add, ltb-true, ltb-false, eqb-true, ne_eqb}
+use Rattle.std.proofs.Common.{◌≡◌, refl, sym, ap, ◌∙◌, Bool, true, false, ◌&&◌, cond, List, [], ◌∷◌, ◌++◌, ℕ, ◌+◌, ◌-◌, ◌≤◌, ◌<◌, append-nil, arith, ltb, eqb, length, get_or, drop, replicate, length-set, length-append, length-drop, drop_of_length-le, get_or-set_same, get_or-set_other, ext_get_or, get_or-append-add, ltb-true, ltb-false, eqb-true, ne_eqb}
 use lib.ListN.{get_or-replicate, length-replicate, get_or-append}
 use borrow.Author.Tests.{eqb-false}
 use Rattle.table.specs.declared.Piece.{Piece}
-use Rattle.table.specs.Pieces.{no_piece, only, All, done, also}
-use Rattle.table.specs.Table.{pieces_of}
-use Rattle.table.proofs.Pieces.{all_map}
-use Rattle.table.proofs.Table.{length_pieces}
+use Rattle.table.specs.Pieces.{only, All, done, also}
+use Rattle.table.proofs.Pieces.{all_head, all_tail, all_map}
 use Rattle.refusal.specs.Numbers.{TOP}
 use Rattle.book.specs.Head.{tab}
 use Rattle.book.specs.Reports.{onto}
 use Rattle.filling.specs.Scatter.{cleared, add_at, entered, scatter, tally, Enterable, Fillable, Tallied}
 use Rattle.book.proofs.BalanceLaws.{length_tab}
 use Rattle.book.proofs.ReportLaws.{row_at}
-
--- what holds of every piece holds of the one at a place
-pub all_at : {P : Piece → Type 0} {ps : List Piece} → All P ps → (i : ℕ) → i < length ps → P (get_or ps i no_piece)
-all_at done i h = absurd (not-suc-le-zero h)
-all_at (also u x) zero h = u
-all_at (also u x) (suc i) h = all_at x i (le_of_suc-le-suc h)
 
 -- numbers that are all 0 are cleared
 pub all_cleared : (room r : List ℕ) → r ≡ replicate (length room) 0 → r ≡ cleared (length room) room
@@ -107,29 +99,21 @@ module _ (test : Piece → Bool) (at : Piece → ℕ) where
       pub filled : (r' : List ℕ) → r' ≡ scatter test at r ps → r' ≡ scatter test at start ps
       filled r' er = rw e at er
 
-  -- The loop, by what is left: the number at a piece's index stays within the bound, a turn, and the end.
-  module _ (n i : ℕ) (t r z : List ℕ) (e : scatter test at r (drop i (pieces_of n t)) ≡ z) (h : i < n) (p : Piece) (ep : p ≡ get_or (pieces_of n t) i no_piece) where
-    here : scatter test at (entered test at r p) (drop (suc i) (pieces_of n t)) ≡ z
-    unfolding scatter
-    here = rw ep (rw (drop-cons (pieces_of n t) i no_piece (rw length_pieces h)) at e)
-
-    pub scatter_next : (r' : List ℕ) → r' ≡ entered test at r p → scatter test at r' (drop (i + 1) (pieces_of n t)) ≡ z
-    scatter_next r' er = rw (er, add-one) here
-
-    pub scatter_bound : (j : ℕ) → j < length r → get_or z j 0 ≤ TOP → get_or (entered test at r p) j 0 ≤ TOP
-    scatter_bound j l b =
-        let s = scatter_at (drop (suc i) (pieces_of n t)) (entered test at r p) j (rw (length_entered r p) l) in
-        let q : get_or (scatter test at (entered test at r p) (drop (suc i) (pieces_of n t))) j 0 ≡ get_or z j 0 = ap (λ (l : List ℕ). get_or l j 0) here in
-        omega arith
-
-  -- what entering the piece at place i asks
-  pub may_enter : (n i : ℕ) (t r r₀ : List ℕ) (p : Piece) → i < n → p ≡ get_or (pieces_of n t) i no_piece → length r ≡ length r₀ → Fillable test at r₀ (pieces_of n t)
-      → scatter test at r (drop i (pieces_of n t)) ≡ scatter test at r₀ (pieces_of n t) → Enterable test at r p
-  may_enter n i t r r₀ p h ep l f e =
-      let u = all_at f i (rw length_pieces h) in
-      let k : at p < length r = rw (l, ep) u.0 in
-      (k, scatter_bound n i t r _ e h p ep (at p) k (rw ep u.1))
-
-  pub scatter_end : (n i : ℕ) (t r z : List ℕ) → n ≤ i → scatter test at r (drop i (pieces_of n t)) ≡ z → r ≡ z
+  -- The loop, by the pieces left: what entering the first of them asks, a turn, and the end.
+  pub may_enter : (r : List ℕ) (p : Piece) (left ps : List Piece) → left ≡ p ∷ ps → Fillable test at r left → Enterable test at r p
   unfolding scatter
-  scatter_end n i t r z h e = rw (drop_of_length-le (pieces_of n t) {i = i} (rw length_pieces h)) at e
+  may_enter r p left ps e f =
+      let h = all_head (rw e at f) in
+      (h.0, omega (arith, h.1, scatter_at ps (entered test at r p) (at p) (rw length_entered h.0)))
+
+  pub fillable_next : (r r' : List ℕ) (p : Piece) (left ps : List Piece) → left ≡ p ∷ ps → Fillable test at r left → r' ≡ entered test at r p → Fillable test at r' ps
+  unfolding scatter
+  fillable_next r r' p left ps e f er = rw (er, length_entered) (all_tail (rw e at f))
+
+  pub scatter_next : (r r' z : List ℕ) (p : Piece) (left ps : List Piece) → left ≡ p ∷ ps → scatter test at r left ≡ z → r' ≡ entered test at r p → scatter test at r' ps ≡ z
+  unfolding scatter
+  scatter_next r r' z p left ps e s er = rw er (rw e at s)
+
+  pub scatter_end : (r z : List ℕ) (left : List Piece) → left ≡ [] → scatter test at r left ≡ z → r ≡ z
+  unfolding scatter
+  scatter_end r z left e s = rw e at s

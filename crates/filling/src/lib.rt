@@ -4,13 +4,13 @@
 
 ghost use Rattle.std.specs.Prelude.{◌≡◌, ◌≤◌, ◌*◌, Bool, if◌then◌else◌, ℕ, length};
 ghost use Rattle.table.specs.declared.Piece.{Piece};
-ghost use Rattle.table.specs.Table.{pieces_of};
 ghost use Rattle.refusal.specs.Numbers.{first};
 ghost use Rattle.book.specs.Reports.{held_row, rows, report_row, report_checks, onto};
 ghost use Rattle.filling.specs.Scatter.{held_by, born, every, origin_of, holder_of, cell_of, entered, scatter, Enterable, Fillable, Tallied, one_pass, Reportable};
 
 use book::Report;
 use table::Piece;
+use table::reading::Pieces;
 
 // What a report adds up: which pieces count, and at which number of the room each is entered.
 trait Tally {
@@ -88,64 +88,63 @@ fn enter<T: Tally>(p: Piece, tally: &T, report: &mut [u32])
 }
 
 // The pieces that count are entered.
-fn add<T: Tally>(table: &[u32], n: usize, tally: &T, report: &mut [u32])
-    requires { (4 * n ≤ length table.now) × Fillable (T.counted tally.now) (T.index_of tally.now) report.old (pieces_of n table.now) }
-    ensures { report.new ≡ scatter (T.counted tally.now) (T.index_of tally.now) report.old (pieces_of n table.now) }
+fn add<T: Tally>(pieces: &Pieces, tally: &T, report: &mut [u32])
+    requires { Fillable (T.counted tally.now) (T.index_of tally.now) report.old pieces.now }
+    ensures { report.new ≡ scatter (T.counted tally.now) (T.index_of tally.now) report.old pieces.now }
 {
-    for i in 0..n {
-        enter(table::piece_at(table, n, i), tally, report);
+    for p in pieces {
+        enter(p, tally, report);
     }
 }
 
 // A report: its numbers become 0, and the pieces that count are entered.
-fn fill_pass<T: Tally>(table: &[u32], n: usize, tally: &T, report: &mut [u32])
-    requires { (4 * n ≤ length table.now) × Tallied (T.counted tally.now) (T.index_of tally.now) (length report.old) (pieces_of n table.now) }
-    ensures { report.new ≡ one_pass (length report.old) (T.counted tally.now) (T.index_of tally.now) report.old (pieces_of n table.now) }
+fn fill_pass<T: Tally>(pieces: &Pieces, tally: &T, report: &mut [u32])
+    requires { Tallied (T.counted tally.now) (T.index_of tally.now) (length report.old) pieces.now }
+    ensures { report.new ≡ one_pass (length report.old) (T.counted tally.now) (T.index_of tally.now) report.old pieces.now }
 {
     report.fill(0);
-    add(table, n, tally, report);
+    add(pieces, tally, report);
 }
 
 // The held report of a vessel: a number for each vessel.
-fn fill_held(table: &[u32], n: usize, vessel: u32, row: &mut [u32])
-    requires { (4 * n ≤ length table.now) × Reportable (length row.old) (pieces_of n table.now) }
-    ensures { row.new ≡ held_row (length row.old) vessel (pieces_of n table.now) }
+fn fill_held(pieces: &Pieces, vessel: u32, row: &mut [u32])
+    requires { Reportable (length row.old) pieces.now }
+    ensures { row.new ≡ held_row (length row.old) vessel pieces.now }
 {
-    fill_pass(table, n, &HeldBy { vessel }, row);
+    fill_pass(pieces, &HeldBy { vessel }, row);
 }
 
 // The rows of all vessels, in one pass.
-fn fill_whole(table: &[u32], n: usize, vessels: u32, report: &mut [u32])
-    requires { (4 * n ≤ length table.now) × (length report.old ≡ vessels * vessels) × Reportable vessels (pieces_of n table.now) }
-    ensures { report.new ≡ rows vessels 0 vessels (pieces_of n table.now) }
+fn fill_whole(pieces: &Pieces, vessels: u32, report: &mut [u32])
+    requires { (length report.old ≡ vessels * vessels) × Reportable vessels pieces.now }
+    ensures { report.new ≡ rows vessels 0 vessels pieces.now }
 {
-    fill_pass(table, n, &ByBoth { row: vessels }, report);
+    fill_pass(pieces, &ByBoth { row: vessels }, report);
 }
 
 // The same at the start of the room, row by row: each row is lent to the held report of its vessel.
-pub fn fill_rows(table: &[u32], n: usize, vessels: u32, report: &mut [u32])
-    requires { (4 * n ≤ length table.now) × (vessels * vessels ≤ length report.old) × Reportable vessels (pieces_of n table.now) }
-    ensures { report.new ≡ onto (rows vessels 0 vessels (pieces_of n table.now)) report.old }
+pub fn fill_rows(pieces: &Pieces, vessels: u32, report: &mut [u32])
+    requires { (vessels * vessels ≤ length report.old) × Reportable vessels pieces.now }
+    ensures { report.new ≡ onto (rows vessels 0 vessels pieces.now) report.old }
 {
     let size = vessels as usize;
     for v in 0..vessels {
         let at = (v * vessels) as usize;
-        fill_held(table, n, v, &mut report[at..at + size]);
+        fill_held(pieces, v, &mut report[at..at + size]);
     }
 }
 
 // What is asked, at the start of room that its checks found long enough.
-pub fn fill(table: &[u32], n: usize, vessels: u32, asked: Report, room: &mut [u32])
-    requires { (4 * n ≤ length table.now) × (first (report_checks vessels (length room.old) asked) ≡ 0)
-        × Reportable vessels (pieces_of n table.now) }
-    ensures { room.new ≡ onto (report_row vessels (pieces_of n table.now) asked) room.old }
+pub fn fill(pieces: &Pieces, vessels: u32, asked: Report, room: &mut [u32])
+    requires { (first (report_checks vessels (length room.old) asked) ≡ 0) × Reportable vessels pieces.now }
+    ensures { room.new ≡ onto (report_row vessels pieces.now asked) room.old }
 {
     let size = vessels as usize;
     match asked {
-        Report::Held(vessel) => fill_held(table, n, vessel, &mut room[..size]),
+        Report::Held(vessel) => fill_held(pieces, vessel, &mut room[..size]),
         Report::Spread(origin, from, to) => {
-            fill_pass(table, n, &BornAt { origin, from, to }, &mut room[..size])
+            fill_pass(pieces, &BornAt { origin, from, to }, &mut room[..size])
         }
-        Report::Whole => fill_whole(table, n, vessels, &mut room[..size * size]),
+        Report::Whole => fill_whole(pieces, vessels, &mut room[..size * size]),
     }
 }

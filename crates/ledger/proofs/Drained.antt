@@ -1,14 +1,12 @@
 -- Drawing every piece's weight from its holder's balance, with nothing short and nothing left over, is that all pieces fit and the
 -- balances are their sums: each way by induction over the pieces.
 -- Assumes nothing.
-use Rattle.std.proofs.Common.{◌≡◌, refl, sym, ap, ◌∙◌, Bool, true, false, ◌&&◌, List, [], ◌∷◌, ◌++◌, ℕ, suc, ◌+◌, ◌-◌, ◌≤◌, ◌<◌, add-one, arith, leb, eqb, length, get_or, set, drop, length-set, length-append, drop_of_length-le, drop-cons, get_or-set_same, get_or-set_other, le-leb, leb-true, eq-eqb, eqb-true}
+use Rattle.std.proofs.Common.{◌≡◌, refl, sym, ap, ◌∙◌, Bool, true, false, ◌&&◌, List, [], ◌∷◌, ◌++◌, ℕ, ◌-◌, ◌≤◌, ◌<◌, arith, leb, eqb, length, get_or, set, length-set, length-append, get_or-set_same, get_or-set_other, le-leb, leb-true, eq-eqb, eqb-true}
 use lib.Seq.{set_at}
 use borrow.Author.Tests.{eqb-false}
 use Rattle.table.specs.declared.Piece.{Piece}
-use Rattle.table.specs.Pieces.{no_piece, held, All, done, also}
-use Rattle.table.specs.Table.{pieces_of}
+use Rattle.table.specs.Pieces.{held, All, done, also}
 use Rattle.table.proofs.Pieces.{all_map}
-use Rattle.table.proofs.Table.{length_pieces}
 use Rattle.book.specs.declared.Head.{Head}
 use Rattle.book.specs.Head.{most_vessels, the_scale, most_holders, balances_of, fits, all_of, every, same, all_zero, balanced}
 use Rattle.ledger.specs.Audit.{covers, drawn, drained}
@@ -84,22 +82,22 @@ module _ (size last : ℕ) (small : size ≤ most_vessels) where
           let x = all_sound size last ps u.0 in
           matches_drained ps (l ++ (w ∷ [])) x (balances_match size l w ps (holders x) (same_eq l (balances_of size ps) k.0) (eqb-true _ _ k.1))
 
--- The loop, by what is left: a turn, a stop and the end.
-module _ (size last n i : ℕ) (t rest : List ℕ) (z : Bool) (e : drained size last rest (drop i (pieces_of n t)) ≡ z) where
-  module _ (p : Piece) (b : Bool) (h : i < n) (ep : p ≡ get_or (pieces_of n t) i no_piece) (eb : b ≡ covers size last rest p) where
-    here : (covers size last rest p && drained size last (drawn rest p) (drop (suc i) (pieces_of n t))) ≡ z
+-- The loop, by the pieces left: a turn, a stop and the end.
+module _ (size last : ℕ) (rest : List ℕ) (left : List Piece) (z : Bool) (e : drained size last rest left ≡ z) where
+  module _ (p : Piece) (ps : List Piece) (b : Bool) (el : left ≡ p ∷ ps) (eb : b ≡ covers size last rest p) where
+    here : (covers size last rest p && drained size last (drawn rest p) ps) ≡ z
     unfolding drained
-    here = rw ep (rw (drop-cons (pieces_of n t) i no_piece (rw length_pieces h)) at e)
+    here = rw el at e
 
-    pub drain_next : b ≡ true → drained size last (drawn rest p) (drop (i + 1) (pieces_of n t)) ≡ z
-    drain_next q = rw add-one (rw (← eb, q) at here)
+    pub drain_next : b ≡ true → drained size last (drawn rest p) ps ≡ z
+    drain_next q = rw (← eb, q) at here
 
     pub drain_stop : b ≡ false → false ≡ z
     drain_stop q = rw (← eb, q) at here
 
-  pub drain_end : (b : Bool) → n ≤ i → b ≡ all_zero rest → b ≡ z
+  pub drain_end : (b : Bool) → left ≡ [] → b ≡ all_zero rest → b ≡ z
   unfolding drained
-  drain_end b h eb = eb ∙ (rw (drop_of_length-le (pieces_of n t) {i = i} (rw length_pieces h)) at e)
+  drain_end b el eb = eb ∙ (rw el at e)
 
 -- a piece that is covered
 module _ (size last : ℕ) (rest : List ℕ) (p : Piece) (b : Bool) (eb : b ≡ covers size last rest p) (q : b ≡ true) where

@@ -1,6 +1,5 @@
 // Whether a book adds up.
-ghost use Rattle.std.specs.Prelude.{◌≡◌, ◌++◌, ◌≤◌, ◌*◌, length, drop};
-ghost use Rattle.table.specs.Table.{pieces_of};
+ghost use Rattle.std.specs.Prelude.{◌≡◌, ◌≤◌, length};
 ghost use Rattle.book.specs.Head.{most_vessels, most_holders, is_holder, all_of, lot_fits, fits, all_zero, balanced, adds_up, Sized};
 ghost use Rattle.refusal.specs.Numbers.{first};
 ghost use Rattle.refusal.specs.Refusals.{outcome_number};
@@ -11,6 +10,7 @@ use super::opening;
 use book::{BALANCES, HOLDERS, Head, SCALE};
 use refusal::Refusal;
 use table::Piece;
+use table::reading::Pieces;
 
 // Whether a book of so many vessels has the holder: a vessel, or the scale.
 fn is_holder(holder: u32, vessels: u32) -> bool
@@ -48,14 +48,13 @@ fn all_zero(rest: &[u32]) -> bool
     rest.iter().all(|x| *x == 0)
 }
 
-// Whether the n pieces draw the balances of all holders down to nothing.
-fn drains(table: &[u32], n: usize, vessels: u32, last: u32, balances: [u32; HOLDERS]) -> bool
-    requires { (4 * n ≤ length table.now) × (vessels ≤ most_vessels) }
-    ensures { result ≡ drained vessels last balances (pieces_of n table.now) }
+// Whether the pieces draw the balances of all holders down to nothing.
+fn drains(pieces: &Pieces, vessels: u32, last: u32, balances: [u32; HOLDERS]) -> bool
+    requires { vessels ≤ most_vessels }
+    ensures { result ≡ drained vessels last balances pieces.now }
 {
     let mut rest = balances;
-    for i in 0..n {
-        let p = table::piece_at(table, n, i);
+    for p in pieces {
         if !is_covered(p, vessels, last, &rest) {
             return false;
         }
@@ -64,15 +63,15 @@ fn drains(table: &[u32], n: usize, vessels: u32, last: u32, balances: [u32; HOLD
     all_zero(&rest)
 }
 
-// Whether the n pieces fit, and the balances of the head, the scale's among them, are their sums.
-fn is_balanced(head: Head, table: &[u32], n: usize) -> bool
-    requires { (4 * n ≤ length table.now) × (head.vessels ≤ most_vessels) }
-    ensures { result ≡ all_of (balanced head (pieces_of n table.now)) }
+// Whether the pieces fit, and the balances of the head, the scale's among them, are their sums.
+fn is_balanced(head: Head, pieces: &Pieces) -> bool
+    requires { head.vessels ≤ most_vessels }
+    ensures { result ≡ all_of (balanced head pieces.now) }
 {
     let mut balances = [0u32; HOLDERS];
     balances[..BALANCES].copy_from_slice(&head.balances);
     balances[BALANCES] = head.scale;
-    drains(table, n, head.vessels, head.last, balances)
+    drains(pieces, head.vessels, head.last, balances)
 }
 
 // Whether the book adds up: one pass over the pieces.
@@ -84,7 +83,9 @@ pub fn adds_up(head: Head, table: &[u32]) -> bool
     if !(1..=opening::VESSELS).contains(&head.vessels) || table::places(table) < n {
         return false;
     }
-    head.rule <= opening::LAST_RULE && head.pieces <= head.accepted && is_balanced(head, table, n)
+    head.rule <= opening::LAST_RULE
+        && head.pieces <= head.accepted
+        && is_balanced(head, &Pieces::of(table, n))
 }
 
 // Checks 1 and 4, which every call makes first.

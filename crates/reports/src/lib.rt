@@ -12,6 +12,7 @@ ghost use Rattle.reports.specs.Asking.{Judged, Asks};
 use book::{Head, Reply, Report};
 use ledger::audit;
 use refusal::Refusal;
+use table::reading::Pieces;
 
 // The checks after 1 and 4.
 #[tactic(auto, unfolding(book::specs::Reports::report_checks, book::specs::Head::balance_at))]
@@ -61,7 +62,8 @@ pub fn report(head: Head, table: &[u32], asked: Report, room: &mut [u32]) -> Rep
 {
     match check(head, table, asked, room) {
         Ok(()) => {
-            filling::fill(table, head.pieces as usize, head.vessels, asked, room);
+            let pieces = Pieces::of(table, head.pieces as usize);
+            filling::fill(&pieces, head.vessels, asked, room);
             Reply { number: 0, head }
         }
         Err(why) => Reply {
@@ -98,7 +100,8 @@ pub fn whole_by_rows(head: Head, table: &[u32], room: &mut [u32]) -> Reply
 {
     match check(head, table, Report::Whole, room) {
         Ok(()) => {
-            filling::fill_rows(table, head.pieces as usize, head.vessels, room);
+            let pieces = Pieces::of(table, head.pieces as usize);
+            filling::fill_rows(&pieces, head.vessels, room);
             Reply { number: 0, head }
         }
         Err(why) => Reply {

@@ -13,6 +13,10 @@ unfoldable pub pieces_of : ℕ → List ℕ → List Piece
 pieces_of zero t = []
 pieces_of (suc n) t = first_piece t ∷ pieces_of n (drop 4 t)
 
+-- the pieces of a table that has no numbers behind them
+abbrev pub all_pieces : List ℕ → List Piece
+all_pieces t = pieces_of (length t / 4) t
+
 -- the numbers of pieces, as they lie
 unfoldable pub flat : List Piece → List ℕ
 flat [] = []

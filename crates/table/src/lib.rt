@@ -1,5 +1,5 @@
 // The pieces of a book, in a lent table of 32-bit numbers: four for a piece, in order of receipt. How many they are stands beside the
-// table, since a head holds it: the C interface lends both as they are.
+// table, since a head holds it: the C interface lends both as they are. Where pieces are only read, both become one value (reading.rt).
 #![tactic(auto)]
 
 ghost use Rattle.std.specs.Prelude.{◌≡◌, ◌<◌, ◌≤◌, ◌*◌, length};
@@ -7,6 +7,7 @@ ghost use Rattle.table.specs.Pieces.{of_weight, hand_to};
 ghost use Rattle.table.specs.Table.{piece_in, put_in, places_of};
 
 pub mod closing; // closing.rt: pieces close up where others have gone
+pub mod reading; // reading.rt: the pieces of a book as one value, where they are only read
 
 // A table never counts more places than this: a transfer's scratch memory is of this size.
 pub const PLACES: usize = 4096;

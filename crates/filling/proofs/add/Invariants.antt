@@ -1,11 +1,10 @@
--- `filling::add` meets its contract. The invariant: entering the pieces left makes the report that is wanted.
-use Rattle.std.proofs.Common.{◌≡◌, length, drop}
-use Rattle.table.specs.Table.{pieces_of}
-use Rattle.filling.specs.Scatter.{scatter}
+-- `filling::add` meets its contract. The invariant: the pieces left can be entered, and entering them makes the report that is wanted.
+use Rattle.std.proofs.Common.{◌≡◌}
+use Rattle.filling.specs.Scatter.{scatter, Fillable}
 use Rattle.filling.proofs.add.Given as goal
 
-abbrev pub invariant-loop-i : goal.invariant-loop-i
-invariant-loop-i g l =
+abbrev pub invariant-loop-p : goal.invariant-loop-p
+invariant-loop-p g l =
     let t = g.T.Tally in
     let rest = scatter (t.counted l.tally) (t.index_of l.tally) in
-    (length l.report ≡ length l.initial.report) × (rest l.report (drop l.i (pieces_of l.n l.table)) ≡ rest l.initial.report (pieces_of l.n l.table))
+    Fillable (t.counted l.tally) (t.index_of l.tally) l.report l.p-iterator × (rest l.report l.p-iterator ≡ rest l.initial.report l.pieces)

@@ -4,7 +4,7 @@ use Rattle.filling.proofs.Scattered.{all_cleared, fillable, filled}
 use Rattle.filling.proofs.fill_pass.Goals as goal
 
 pub add-requires : goal.add-requires
-add-requires g c = (c.requires.0, fillable _ _ _ c.args.report.now _ (omega arith) _ (all_cleared c.args.report.now c.fill.new.self (search (rules, c.fill.ensures.after))) c.requires.1)
+add-requires g c = fillable _ _ _ c.args.report.now _ (omega arith) _ (all_cleared c.args.report.now c.fill.new.self (search (rules, c.fill.ensures.after))) c.requires
 
 pub returns : goal.returns
 returns g c = search (rules, all_cleared, filled, c.fill.ensures.after)
