@@ -72,10 +72,6 @@ module _ (s : List ℕ) (m : ℕ) (h₀ : Head) (t₀ : List ℕ) (h : Head) (t 
   unfolding run_from
   here q = rw (next_transfer s i (rw able.count at q)) at g.left
 
-  -- what the next movement asks
-  pub going_makes : i < m → (read_number s ≡ 0) × (i < movements_of s) × Audited h t
-  going_makes q = (able.reads, rw able.count at q, g.audited)
-
   module _ (made : Transferred) (t' : List ℕ) (q : i < m) (posts : Posts h (post (transfer_at s i)) t t' made) where
     same_number : made.number ≡ o.number
     same_number = ap (λ (z : Transferred). z.number) posts.answer
@@ -91,9 +87,6 @@ module _ (s : List ℕ) (m : ℕ) (h₀ : Head) (t₀ : List ℕ) (h : Head) (t 
 
     -- it is accepted, and the run goes on
     module _ (z : made.number ≡ 0) (one : ℕ) (eo : (one ≡ if_zero (made.split + made.born) 1 0) × (one ≤ 1)) where
-      pub going_counts : even + one ≤ m
-      going_counts = omega (arith, g.some_even, eo.1)
-
       pub going_next : Going s m h₀ t₀ made.head t' (even + one) (i + 1)
       going_next =
           let known = known_up h t g.audited.sized g.audited.book_adds_up in
@@ -118,14 +111,6 @@ module _ (s : List ℕ) (m : ℕ) (h₀ : Head) (t₀ : List ℕ) (h : Head) (t 
   going_end q =
       let f : ended 0 i even h t ≡ all = rw (drop_of_length-le (transfers_of s) {i = i} (rw (length_groups, ← able.count) q)) at g.left in
       record { answer_is = ap (λ (r : Running). r.answer) f; table_is = ap (λ (r : Running). r.table) f }
-
-pub going_start : (s : List ℕ) (m : ℕ) (h : Head) (t : List ℕ) → Runnable s m h t → Going s m h t h t 0 0
-going_start s m h t able = record { some_even = omega arith; audited = able.audited; left = refl; table_length = refl }
-
--- a movement as it is read is the transfer that is made
-pub made_as : (h : Head) (t s : List ℕ) (i : ℕ) (m : Movement) (z : Transferred) (t' : List ℕ) → m ≡ movement_at s i
-    → Posts h (post (transfer_of m.source m.destination m.minute m.weight m.age)) t t' z → Posts h (post (transfer_at s i)) t t' z
-made_as h t s i m z t' e p = rw e at p
 
 -- an opening that is not refused gives the fresh head
 pub fresh_opened : (rule size : ℕ) → first (open_checks rule size) ≡ 0 → (opening rule size).head ≡ empty_head rule size
