@@ -32,6 +32,7 @@ use Rattle.refusal.proofs.Refusals.{some_number}
 use Rattle.sheet.specs.declared.answer.Header.{Header}
 use Rattle.run.specs.Run.{not_run, Checked, transfer_in, transfer_at, transfers_of, Running, Gives, ended, go_on, run_from, run_number, running, Runnable}
 use Rattle.sheet.proofs.ReadLaws.{good}
+use Rattle.sheet.proofs.AnswerLaws.{number_read, read_zero, header}
 use Rattle.fields.proofs.GroupLaws.{length_groups, group_at, next_group}
 
 -- the transfer at index i, and those behind it
@@ -125,39 +126,25 @@ pub opened_well : (s : List ℕ) → read_number s ≡ 0 → (opening (rule_of s
 unfolding opening
 opened_well s e = rw (opens_well s e)
 
--- what reading tells
-module _ (s : List ℕ) where
-  read_zero : (h : Header) → reading_of (Ok h) ≡ reading s → (read_number s ≡ 0) × (h ≡ header_numbers s)
-  read_zero h e = go (read_number s) e
-    where
-      go : (n : ℕ) → reading_of (Ok h) ≡ if_zero n (header_of s) (refused_reading n) → (n ≡ 0) × (h ≡ header_numbers s)
-      go zero q = (refl, ap (λ (r : Reading). record { rule = r.rule; vessels = r.vessels; movements = r.movements }) q)
-      go (suc n) q = absurd (omega (arith, ap (λ (r : Reading). r.number) q))
-
-  read_refused : (why : Refusal) → refused_reading (number_of why) ≡ reading s → number_of why ≡ read_number s
-  read_refused why e = ap (λ (r : Reading). r.number) e ∙ go (read_number s)
-    where
-      go : (n : ℕ) → (if_zero n (header_of s) (refused_reading n)).number ≡ n
-      go zero = refl
-      go (suc n) = refl
-
 -- the ways out of `check`
 module _ (s t : List ℕ) where
   pub unread : (r : Result Header Refusal) (why : Refusal) → IsErrAnd r (λ (other : Refusal). other ≡ why) → refused_reading (number_of why) ≡ reading s → Checked s t r
   unfolding run_number
   unread (Ok h) why is e = absurd is
   unread (Err other) why is e =
-      let n : number_of other ≡ read_number s = ap number_of is ∙ read_refused s why e in
+      let n : number_of other ≡ read_number s = ap number_of is ∙ number_read s (refused_reading (number_of why)) e in
       rw (← n) (not_zero (number_of other) _ (number_of other) (some_number other))
 
   module _ (h : Header) (e : reading_of (Ok h) ≡ reading s) where
     pub no_place : length t < 4 → Checked s t (Err TableShort)
     unfolding run_number
-    no_place short = rw ((read_zero s h e).0, lt-ltb (length t) 4 short)
+    no_place short = rw (read_zero s (reading_of (Ok h)) e refl, lt-ltb (length t) 4 short)
 
     pub can_begin : 4 ≤ length t → Checked s t (Ok h)
     unfolding run_number
-    can_begin long = let z = read_zero s h e in (rw (z.0, le-ltb (length t) 4 long), z.1)
+    can_begin long =
+        let same = ap (λ (r : Reading). record { rule = r.rule; vessels = r.vessels; movements = r.movements }) (header s (reading_of (Ok h)) e refl) in
+        (rw (read_zero s (reading_of (Ok h)) e refl, le-ltb (length t) 4 long), same)
 
 -- the ways out of `run`
 module _ (s t : List ℕ) where
