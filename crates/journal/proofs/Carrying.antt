@@ -2,7 +2,6 @@
 -- the calls, so that demand 3 holds of it.
 -- Assumes nothing.
 use Rattle.std.proofs.Common.{◌≡◌, refl, sym, ap, ◌∙◌, Bool, true, false, cond, List, [], ◌∷◌, ◌++◌, append_assoc, append-nil, ℕ, zero, suc, ◌+◌, ◌-◌, ◌*◌, ◌≤◌, ◌<◌, add-one, arith, length, set, take, drop, length-set, take-append-drop, drop-drop, take-suc-set, drop-set-lt}
-use native.Mathlib.Nat.{sub-zero}
 use Rattle.std.proofs.lemmas.List.{take_rest}
 use Rattle.refusal.specs.Numbers.{◌if◌, first}
 use Rattle.refusal.specs.declared.Refusal.{Refusal}
