@@ -9,7 +9,7 @@ use Rattle.refusal.specs.Numbers.{TOP}
 use Rattle.table.specs.declared.Piece.{Piece}
 use Rattle.table.specs.Pieces.{only, held, All, done, also}
 use Rattle.book.specs.declared.Head.{Head}
-use Rattle.book.specs.Head.{most_vessels, the_scale, most_holders, is_holder, holdings, Sized, Shiftable, balance_at, with_balance, shifted, tab, balance_of, balances_of, head_of, opened, empty_head}
+use Rattle.book.specs.Head.{most_vessels, the_scale, most_holders, is_holder, holdings, Sized, balance_at, with_balance, shifted, tab, balance_of, balances_of, head_of, opened, empty_head}
 use Rattle.book.proofs.HolderLaws.{holder_vessel, holder_bound}
 
 pub length_tab : (f : ℕ → ℕ) (i n : ℕ) → length (tab f i n) ≡ n
@@ -202,11 +202,3 @@ shift_there h s w d apart = go (eqb s the_scale) (eqb d the_scale) refl refl
     go true false e f = refl
     go false true e f = refl
     go false false e f = get_or-set_other h.balances s d w 0 (λ z. apart (sym z))
-
--- the code's way there
-module _ (h less : Head) (s given d received x y : ℕ) (ex : x ≡ balance_at h s) (el : less ≡ with_balance h s (x - given)) (ey : y ≡ balance_at less d) where
-  pub shift_room : Shiftable h s given d received → Fits w32 (y + received)
-  shift_room f = let m : y + received ≤ TOP = rw (ey, el, ex) f.room in record { fits = omega arith }
-
-  pub shift_is : (z : Head) → z ≡ with_balance less d (y + received) → z ≡ shifted h s given d received
-  shift_is z e = e ∙ rw (ey, el, ex)

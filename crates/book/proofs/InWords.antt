@@ -27,7 +27,7 @@ use Rattle.book.specs.Scale.{lift_checks, lift_motion}
 use Rattle.book.specs.Reports.{report_row}
 use Rattle.book.specs.Calls.{Call, post, lift, tip, ask, Answer, tip_on, meaning}
 use Rattle.book.specs.Memory.{number_of, call_on}
-use Rattle.book.proofs.Checks.{Fit, fit, LiftFit, lift_fit, TipFit, tip_fit}
+use Rattle.book.proofs.Checks.{Fit, fit, LiftFit, lift_fit}
 use Rattle.book.proofs.Memory.{call_number, refused_on, on_number, passed_book, book_passed}
 use Rattle.book.proofs.Known.{AddsUp, adds_up_told}
 
@@ -52,9 +52,6 @@ module _ (h : Head) (t : List ℕ) where
   pub fit_lift : (x : Lift) → number_of h t (lift x) ≡ 0 → LiftFit (of_book (book_of h t)) x
   unfolding lift_checks
   fit_lift x e = lift_fit _ x (passed_first (lift_checks (of_book (book_of h t)) x) (11 if ltb (places_of t) (length (pieces_after (book_of h t) h.rule (lift_motion x))) ∷ []) tt (passed_own (lift x) e))
-
-  pub fit_tip : (y : Tip) → number_of h t (tip y) ≡ 0 → TipFit (of_book (book_of h t)) y
-  fit_tip y e = tip_fit _ y (passed_own (tip y) e)
 
   -- what takes weight from a vessel, by the rule of the book
   abbrev moved : Motion → Moved

@@ -26,7 +26,3 @@ slices_compared [] [] = refl
 slices_compared [] (y ∷ b) = refl
 slices_compared (x ∷ a) [] = refl
 slices_compared (x ∷ a) (y ∷ b) = rw (slices_compared a b)
-
--- the part of a slice from an index to its end
-pub rest_part : (s : List ℕ) (at : ℕ) → take (length s - at) (drop at s) ≡ drop at s
-rest_part s at = take_all (length s - at) (drop at s) (simp length-drop (omega arith))

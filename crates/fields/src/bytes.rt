@@ -4,6 +4,7 @@ ghost use Rattle.std.proofs.lemmas.List.Edits.{sets};
 ghost use Rattle.fields.specs.Bytes.{value_in, bytes_of};
 
 // The number in the byte at `at`.
+#[tactic(auto, using(crate::proofs::ByteLaws::value_one))]
 pub fn read8(s: &[u8], at: usize) -> u32
     requires { at + 1 ≤ length s.now }
     ensures { (result ≡ value_in 1 (drop at s.now)) × (result < 256) }
@@ -12,6 +13,7 @@ pub fn read8(s: &[u8], at: usize) -> u32
 }
 
 // The number in the two bytes from `at` on.
+#[tactic(auto, using(crate::proofs::ByteLaws::value_two))]
 pub fn read16(s: &[u8], at: usize) -> u32
     requires { at + 2 ≤ length s.now }
     ensures { (result ≡ value_in 2 (drop at s.now)) × (result < 65536) }
@@ -20,6 +22,7 @@ pub fn read16(s: &[u8], at: usize) -> u32
 }
 
 // The number in the four bytes from `at` on.
+#[tactic(auto, using(crate::proofs::ByteLaws::value_four))]
 pub fn read32(s: &[u8], at: usize) -> u32
     requires { at + 4 ≤ length s.now }
     ensures { result ≡ value_in 4 (drop at s.now) }
@@ -28,6 +31,7 @@ pub fn read32(s: &[u8], at: usize) -> u32
 }
 
 // Puts `value` into the `width` bytes from `at` on. Not by `to_le_bytes`: that has four bytes, and a width may be any.
+#[tactic(auto, using(crate::proofs::PutLaws::number_turn, crate::proofs::PutLaws::number_put))]
 pub fn put_number(out: &mut [u8], at: usize, width: usize, value: u32)
     requires { at + width ≤ length out.old }
     ensures { out.new ≡ sets out.old at (bytes_of width value) }
@@ -40,6 +44,7 @@ pub fn put_number(out: &mut [u8], at: usize, width: usize, value: u32)
 }
 
 // Puts `bytes` into the slice from `at` on.
+#[tactic(auto, using(crate::proofs::PutLaws::part_put))]
 pub fn put_bytes(out: &mut [u8], at: usize, bytes: &[u8])
     requires { at + length bytes.now ≤ length out.old }
     ensures { out.new ≡ sets out.old at bytes.now }

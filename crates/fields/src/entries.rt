@@ -20,6 +20,7 @@ pub struct Entry {
 }
 
 // The movement in the twelve bytes from `at` on.
+#[tactic(auto, using(crate::proofs::EntryLaws::entry_read))]
 pub fn read_entry(s: &[u8], at: usize) -> Entry
     requires { at + entry_size ≤ length s.now }
     ensures { (result ≡ entry_in (drop at s.now)) × (result.age ≤ most_age) }

@@ -2,7 +2,7 @@
 -- the calls, so that demand 3 holds of it.
 -- Assumes nothing.
 use Rattle.std.proofs.Common.{◌≡◌, refl, sym, ap, ◌∙◌, Bool, true, false, cond, List, [], ◌∷◌, ◌++◌, append_assoc, append-nil, ℕ, zero, suc, ◌+◌, ◌-◌, ◌*◌, ◌≤◌, ◌<◌, add-one, arith, length, set, take, drop, length-set, take-append-drop, drop-drop, take-suc-set, drop-set-lt}
-use native.Mathlib.Nat.{sub-zero}
+use Rattle.std.proofs.lemmas.List.{take_rest}
 use Rattle.refusal.specs.Numbers.{◌if◌, first}
 use Rattle.refusal.specs.declared.Refusal.{Refusal}
 use Rattle.refusal.specs.Refusals.{number_of}
@@ -23,7 +23,7 @@ use Rattle.book.proofs.HeadLaws.{open_accepted}
 use Rattle.book.proofs.Lists.{demand_3}
 use Rattle.journal.specs.declared.Call as Read
 use Rattle.journal.specs.Reading.{call_read, called}
-use Rattle.journal.proofs.Reading.{rest, rest_is, read_on, called_is}
+use Rattle.journal.proofs.Reading.{rest, read_on, called_is}
 
 -- a report as a call
 pub made_report : (h : Head) (t room : List ℕ) (q : Report) (z : Reply) (r' : List ℕ) → Asks h q t room r' z → Makes h (ask q room) t room t r' z
@@ -49,7 +49,7 @@ module _ (n : ℕ) (l : List ℕ) (h₀ : Head) (t₀ a₀ r₀ : List ℕ) (h :
       → Going n l h₀ t₀ a₀ r₀ z.head t' (set a i z.number) r' (i + 1)
   unfolding carried
   going_next z t' r' q m k ek c ec p lt lr =
-      let made : Makes h (call_in (drop (call_size * i) l) r) t r t' r' z = rw ((read_on _ c (rw (rest_is (call_size * i) l) at (sym ek ∙ ec))).1, called_is (drop (call_size * i) l) r) at p in
+      let made : Makes h (call_in (drop (call_size * i) l) r) t r t' r' z = rw ((read_on _ c (rw take_rest at (sym ek ∙ ec))).1, called_is (drop (call_size * i) l) r) at p in
       let d : n - i ≡ suc (n - suc i) = omega arith in
       let size : call_size * i + call_size ≡ call_size * suc i = omega arith in
       let k : drop call_size (drop (call_size * i) l) ≡ drop (call_size * suc i) l = drop-drop call_size (call_size * i) l ∙ ap (λ (j : ℕ). drop j l) size in

@@ -1,7 +1,7 @@
 -- Calls read from numbers: what was read is the call in the numbers where its age is none that is off, and the scan for such ages by what is left of it.
 -- Assumes nothing.
-use Rattle.std.proofs.Common.{◌≡◌, refl, sym, ap, Bool, true, false, cond, eqb, List, ℕ, zero, suc, ◌+◌, ◌-◌, ◌*◌, ◌≤◌, ◌<◌, arith, length, get_or, take, drop, length-drop, drop-drop, take_all, ◌∙◌}
-use native.Mathlib.Nat.{sub-zero}
+use Rattle.std.proofs.Common.{◌≡◌, refl, sym, ap, Bool, true, false, cond, eqb, List, ℕ, zero, suc, ◌+◌, ◌-◌, ◌*◌, ◌≤◌, ◌<◌, arith, length, get_or, take, drop, drop-drop, ◌∙◌}
+use Rattle.std.proofs.lemmas.List.{take_rest}
 use Rattle.std.specs.Prelude.{Result, Ok, Err}
 use Rattle.std.specs.Result.{result_unwrap_or, IsOk}
 use Rattle.refusal.specs.declared.Refusal.{Refusal}
@@ -18,9 +18,6 @@ use Rattle.journal.specs.Carried.{call_size, transfer_in, lift_in, tip_in, repor
 -- a slice from a place on
 abbrev pub rest : ℕ → List ℕ → List ℕ
 rest k l = take (length l - k) (drop k l)
-
-pub rest_is : (k : ℕ) (l : List ℕ) → rest k l ≡ drop k l
-rest_is k l = take_all (length l - k) (drop k l) (simp length-drop (omega arith))
 
 -- what was read, where an age is off and where none is
 pub read_off : (l : List ℕ) (why : Refusal) → call_read l ≡ Err why → (age_off l ≡ true) × (number_of why ≡ 18)
@@ -59,7 +56,7 @@ module _ (n : ℕ) (l : List ℕ) (i : ℕ) (s : Scanned n l i) where
   pub scan_turn : i < n → (r : Result Call Refusal) → r ≡ call_read (rest (call_size * i) l) → (c : Call) → r ≡ Ok c → Scanned n l (i + 1)
   unfolding ages_off
   scan_turn h r er c ec =
-      let e : call_read (drop (call_size * i) l) ≡ Ok c = rw (rest_is (call_size * i) l) at (sym er ∙ ec) in
+      let e : call_read (drop (call_size * i) l) ≡ Ok c = rw take_rest at (sym er ∙ ec) in
       let d : n - i ≡ suc (n - (i + 1)) = omega arith in
       let k : call_size * i + call_size ≡ call_size * (i + 1) = omega arith in
       record { left = rw (← k, ← drop-drop call_size (call_size * i) l) (rw (d, (read_on _ c e).0) at s.left) }
@@ -67,7 +64,7 @@ module _ (n : ℕ) (l : List ℕ) (i : ℕ) (s : Scanned n l i) where
   pub scan_found : i < n → (r : Result Call Refusal) → r ≡ call_read (rest (call_size * i) l) → (why : Refusal) → r ≡ Err why → number_of why ≡ cond (ages_off n l) 18 0
   unfolding ages_off
   scan_found h r er why ee =
-      let e : call_read (drop (call_size * i) l) ≡ Err why = rw (rest_is (call_size * i) l) at (sym er ∙ ee) in
+      let e : call_read (drop (call_size * i) l) ≡ Err why = rw take_rest at (sym er ∙ ee) in
       let d : n - i ≡ suc (n - (i + 1)) = omega arith in
       let q = read_off _ why e in
       let o : true ≡ ages_off n l = rw (d, q.0) at s.left in rw (← o, q.1)
@@ -87,4 +84,4 @@ ages_one (suc n) l h (suc i) q =
 
 pub reads_well : (n : ℕ) (l : List ℕ) → ages_off n l ≡ false → (i : ℕ) → i < n → (r : Result Call Refusal) → r ≡ call_read (rest (call_size * i) l) → IsOk r
 unfolding call_read
-reads_well n l h i q r er = rw (er, rest_is (call_size * i) l, ages_one n l h i q)
+reads_well n l h i q r er = rw (er, take_rest, ages_one n l h i q)

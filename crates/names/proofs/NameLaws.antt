@@ -6,7 +6,8 @@ use Rattle.std.specs.List.{list_all, prefix_len}
 use Rattle.book.specs.Head.{same, all_zero}
 use Rattle.fields.specs.Layout.{name_size}
 use Rattle.names.specs.Names.{graphic, letters, one_more_if, well_formed, name_at, name_off, used_in}
-use Rattle.fields.proofs.ByteLaws.{rest_part, slices_compared}
+use Rattle.std.proofs.lemmas.List.{take_rest}
+use Rattle.fields.proofs.ByteLaws.{slices_compared}
 use Rattle.fields.proofs.GroupLaws.{group_at}
 
 -- std's count of graphic bytes from the front on is the letters
@@ -52,7 +53,7 @@ pub letters_then : (s : List ℕ) (n : ℕ) (r : Bool) → n ≡ letters s → (
 unfolding well_formed
 letters_then s n r e z t =
     let p : ltb 0 (letters s) ≡ true = lt-ltb 0 (letters s) (omega arith) in
-    t ∙ ap all_zero (rest_part s n) ∙ simp (e, p)
+    t ∙ ap all_zero (take_rest s n) ∙ simp (e, p)
 
 -- the two ways out of `name_off`
 module _ (l : List ℕ) (vessels i : ℕ) (a : List ℕ) (rest : List (List ℕ)) (w : Bool) (h : i < vessels) (ea : a ≡ take name_size (drop (name_size * i) l)) (ew : w ≡ well_formed a) where

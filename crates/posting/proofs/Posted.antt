@@ -1,5 +1,6 @@
 -- The calls: what the checks of a transfer, a lift and a tip tell lets their motion be carried, and what is answered then is the call on head and
--- table. A transfer and a lift are one law, over the checks and the motion of what takes weight from a vessel.
+-- table. One law of a posting, `posted`, serves all three; a transfer and a lift are one law more, over the checks and the motion of what takes weight
+-- from a vessel.
 -- Assumes nothing.
 use Rattle.std.specs.Prelude.{Result, Ok, Err}
 use Rattle.std.proofs.Common.{◌≡◌, refl, sym, ap, ◌∙◌, Bool, true, false, cond, List, [], ◌∷◌, ℕ, zero, suc, ◌≤◌, ◌<◌, arith, w32, Fits, T, eqb, length, le-ltb}
@@ -35,7 +36,7 @@ use Rattle.refusal.specs.Refusals.{outcome_number}
 use Rattle.posting.specs.Posting.{PostsKnown, PostsAny, refused_with, transferred, tipped, Posts, Tips}
 use Rattle.carrying.proofs.Next.{audited, work_known, vessels_fit, next_head_is}
 
--- what is answered where the posting was refused
+-- What is answered where the posting was refused with number n, and so is the call.
 transferred_refused : (h : Head) (r : Result Carried Refusal) (n : ℕ) → outcome_number r ≡ n → (n ≡ 0 → ⊥) → transferred h r ≡ refused_with h n
 transferred_refused h (Ok c) n e nz = absurd (nz (sym e))
 transferred_refused h (Err why) n e nz = ap (refused_with h) e
@@ -44,14 +45,35 @@ tipped_refused : (h : Head) (r : Result Carried Refusal) (n : ℕ) → outcome_n
 tipped_refused h (Ok c) n e nz = absurd (nz (sym e))
 tipped_refused h (Err why) n e nz = ap (λ (n : ℕ). record { number = n; head = h }) e
 
--- a call that is refused with number n
-posts_refusal : (h : Head) (t : List ℕ) (c : Call) (n : ℕ) (r : Result Carried Refusal) → number_of h t c ≡ n → (n ≡ 0 → ⊥) → outcome_number r ≡ n → Posts h c t t (transferred h r)
-posts_refusal h t c n r e nz er =
-    let u = refused_on h t c n e nz in record { answer = rw u (transferred_refused h r n er nz); table = rw u }
+module _ (h : Head) (t t' : List ℕ) (r : Result Carried Refusal) where
+  posts_refusal : (c : Call) (n : ℕ) → number_of h t c ≡ n → (n ≡ 0 → ⊥) → outcome_number r ≡ n → t' ≡ t → Posts h c t t' (transferred h r)
+  posts_refusal c n e nz er et =
+      let u = refused_on h t c n e nz in record { answer = rw u (transferred_refused h r n er nz); table = rw u et }
 
-tips_refusal : (h : Head) (t : List ℕ) (y : Tip) (n : ℕ) (r : Result Carried Refusal) → number_of h t (tip y) ≡ n → (n ≡ 0 → ⊥) → outcome_number r ≡ n → Tips h y t t (tipped h r)
-tips_refusal h t y n r e nz er =
-    let u = refused_on h t (tip y) n e nz in record { answer = rw u (tipped_refused h r n er nz); table = rw u }
+  tips_refusal : (y : Tip) (n : ℕ) → number_of h t (tip y) ≡ n → (n ≡ 0 → ⊥) → outcome_number r ≡ n → t' ≡ t → Tips h y t t' (tipped h r)
+  tips_refusal y n e nz er et =
+      let u = refused_on h t (tip y) n e nz in record { answer = rw u (tipped_refused h r n er nz); table = rw u et }
+
+-- ONE LAW FOR EVERY POSTING. What a call promises holds where the call is refused by its number, and where its motion is carried on a book known to add up.
+module _ (checks : Standing → List Check) (motion : ℕ → Motion) (rule : ℕ → ℕ) (h : Head) (t t' : List ℕ) (r : Result Carried Refusal) (c : Call) (Promise : Type 0)
+    (refused : (n : ℕ) → number_of h t c ≡ n → (n ≡ 0 → ⊥) → outcome_number r ≡ n → t' ≡ t → Promise)
+    (own : Audited h t → (n : ℕ) → first (checks (of_head h)) ≡ suc n → number_of h t c ≡ suc n)
+    (done : Audited h t → first (checks (of_head h)) ≡ 0 → Carries h (rule h.rule) (motion h.scale) t t' r → Promise) where
+  posted_known : Audited h t → PostsKnown checks motion rule h t t' r → Promise
+  posted_known w p = go (first (checks (of_head h))) refl
+    where
+      go : (n : ℕ) → first (checks (of_head h)) ≡ n → Promise
+      go zero e = done w e (p.carried e)
+      go (suc n) e = let q = p.refused (λ z. omega (arith, e, z)) in refused (suc n) (own w n e) (λ z. omega (arith, z)) (q.0 ∙ e) q.1
+
+  posted : PostsAny checks motion rule h t t' r → Promise
+  posted p = go (first (book_checks h t)) refl
+    where
+      go : (n : ℕ) → first (book_checks h t) ≡ n → Promise
+      go zero e = let u = p.on e in posted_known u.0 u.1
+      go (suc n) e =
+          let q = p.off (λ z. omega (arith, e, z)) in
+          refused (suc n) (off_number h t c (suc n) (sym e) (λ z. omega (arith, z))) (λ z. omega (arith, z)) (q.0 ∙ e) q.1
 
 -- A book that 1 and 4 let pass adds up, and a posting on it is on any book.
 pub posts_on : (checks : Standing → List Check) (motion : ℕ → Motion) (rule : ℕ → ℕ) (h : Head) (t t' : List ℕ) (r : Result Carried Refusal)
@@ -76,79 +98,67 @@ module _ (h : Head) (t : List ℕ) (w : Audited h t) where
   standing = standing_same h t k
 
   -- What takes weight from a vessel, with these checks and this motion.
-  module _ (c : Call) (checks : Standing → List Check) (m : Motion) (is : meaning c ≡ taking (λ (b : Book). checks (of_book b)) m) (ok : T (named (checks (of_book b)))) where
+  module _ (c : Call) (checks : Standing → List Check) (m : Motion) (is : meaning c ≡ taking (λ (b : Book). checks (of_book b)) m) (ok : (g : Standing) → T (named (checks g))) where
     abbrev full_now : Bool
     full_now = full (places_of t) m.moves (taken h.rule m.moves b.pieces)
 
-    number_parts : number_of h t c ≡ if_zero (first (checks (of_book b))) (cond full_now 11 0) (first (checks (of_book b)))
+    taking_number : number_of h t c ≡ if_zero (first (checks (of_head h))) (cond full_now 11 0) (first (checks (of_head h)))
     unfolding takes
-    number_parts = number_is c ∙ rw is (first_append (checks (of_book b)) (11 if full_now ∷ []) ok ∙ go (first (checks (of_book b))) full_now)
+    taking_number =
+        number_is c ∙ rw (is, standing) (first_append (checks (of_book b)) (11 if full_now ∷ []) (ok (of_book b)) ∙ go (first (checks (of_book b))) full_now)
       where
         go : (n : ℕ) (f : Bool) → if_zero n (first (11 if f ∷ [])) n ≡ if_zero n (cond f 11 0) n
         go zero true = refl
         go zero false = refl
         go (suc n) f = refl
 
-    module _ (n : ℕ) (en : n ≡ first (checks (of_head h))) where
-      own : n ≡ first (checks (of_book b))
-      own = en ∙ ap (λ (g : Standing). first (checks g)) standing
+    module _ (zn : first (checks (of_head h)) ≡ 0) (source_in : m.moves.source < most_holders) (destination_in : m.moves.destination < most_holders)
+        (t' : List ℕ) (r : Result Carried Refusal) (p : Carries h h.rule m t t' r) where
+      decided : number_of h t c ≡ cond full_now 11 0
+      decided = taking_number ∙ rw zn
 
-      taking_refused : (n ≡ 0 → ⊥) → (r : Result Carried Refusal) → outcome_number r ≡ n → Posts h c t t (transferred h r)
-      taking_refused nz r er = posts_refusal h t c n r (number_parts ∙ rw (← own) (sym (not_zero n _ n nz))) nz er
+      -- no place was left
+      at_none : full_now ≡ true → outcome_number r ≡ 11
+      unfolding applied
+      at_none e = rw p.answer (rw e)
 
-      module _ (zn : n ≡ 0) (source_in : m.moves.source < most_holders) (destination_in : m.moves.destination < most_holders)
-          (t' : List ℕ) (r : Result Carried Refusal) (p : Carries h h.rule m t t' r) where
-        decided : number_of h t c ≡ cond full_now 11 0
-        decided = number_parts ∙ rw (← own, zn)
+      at_full : full_now ≡ true → Posts h c t t' (transferred h r)
+      unfolding applied table_left
+      at_full e = posts_refusal h t t' r c 11 (decided ∙ rw e) (λ q. omega arith) (at_none e) (p.table ∙ rw e)
 
-        -- no place was left
-        at_none : full_now ≡ true → outcome_number r ≡ 11
-        unfolding applied
-        at_none e = rw p.answer (rw e)
+      -- accepted
+      at_last : full_now ≡ false → Posts h c t t' (transferred h r)
+      unfolding applied table_left takes
+      at_last e =
+          let ea : number_of h t c ≡ 0 = decided ∙ rw e in
+          let o = accepted_on h t c ea ∙ ap (λ (x : Meaning). outcome h t x 0) is in
+          let s = (keeps (places_of t) b c k.sound (sym (number_same (places_of t) h t b k.on k.sound c) ∙ ea)).sound.sound in
+          let u : Holders h.vessels (pieces_after b h.rule m) = all_map (λ q g. g.holder_in) (rw is at s) in
+          record { answer = rw o (ap (transferred h) p.answer ∙ rw (e, next_head_is h t w h.rule m source_in destination_in u)); table = rw o (p.table ∙ rw e) }
 
-        at_full : full_now ≡ true → Posts h c t t' (transferred h r)
-        unfolding applied table_left
-        at_full e = rw (p.table, e) (posts_refusal h t c 11 r (decided ∙ rw e) (λ q. omega arith) (at_none e))
+      taking_done : Posts h c t t' (transferred h r)
+      taking_done = go full_now refl
+        where
+          go : (x : Bool) → full_now ≡ x → Posts h c t t' (transferred h r)
+          go true e = at_full e
+          go false e = at_last e
 
-        -- accepted
-        at_last : full_now ≡ false → Posts h c t t' (transferred h r)
-        unfolding applied table_left takes
-        at_last e =
-            let ea : number_of h t c ≡ 0 = decided ∙ rw e in
-            let o = accepted_on h t c ea ∙ ap (λ (x : Meaning). outcome h t x 0) is in
-            let s = (keeps (places_of t) b c k.sound (sym (number_same (places_of t) h t b k.on k.sound c) ∙ ea)).sound.sound in
-            let u : Holders h.vessels (pieces_after b h.rule m) = all_map (λ q g. g.holder_in) (rw is at s) in
-            record { answer = rw o (ap (transferred h) p.answer ∙ rw (e, next_head_is h t w h.rule m source_in destination_in u)); table = rw o (p.table ∙ rw e) }
-
-        taking_done : Posts h c t t' (transferred h r)
-        taking_done = go full_now refl
-          where
-            go : (x : Bool) → full_now ≡ x → Posts h c t t' (transferred h r)
-            go true e = at_full e
-            go false e = at_last e
-
--- What takes weight from a vessel, on a book known to add up and on any book, where what its checks tell lets its motion be carried.
+-- The law for what takes weight from a vessel, where what its checks tell lets its motion be carried.
 module _ (h : Head) (t : List ℕ) (c : Call) (checks : Standing → List Check) (m : Motion) (is : meaning c ≡ taking (λ (b : Book). checks (of_book b)) m)
     (ok : (g : Standing) → T (named (checks g)))
     (there : h.vessels ≤ most_vessels → first (checks (of_head h)) ≡ 0 → (m.moves.source < most_holders) × (m.moves.destination < most_holders))
     (t' : List ℕ) (r : Result Carried Refusal) where
-  posts_known : Audited h t → PostsKnown checks (λ _. m) (λ rule. rule) h t t' r → Posts h c t t' (transferred h r)
-  posts_known w p = go (first (checks (of_head h))) refl
-    where
-      go : (n : ℕ) → n ≡ first (checks (of_head h)) → Posts h c t t' (transferred h r)
-      go zero e = let u = there (vessels_fit h t w) (sym e) in taking_done h t w c checks m is (ok (of_book (book_of h t))) zero e refl u.0 u.1 t' r (p.carried (sym e))
-      go (suc n) e =
-          let q = p.refused (λ z. omega (arith, e, z)) in
-          rw (q.1) (taking_refused h t w c checks m is (ok (of_book (book_of h t))) (suc n) e (λ z. omega (arith, z)) r (q.0 ∙ sym e))
+  own : Audited h t → (n : ℕ) → first (checks (of_head h)) ≡ suc n → number_of h t c ≡ suc n
+  own w n e = taking_number h t w c checks m is ok ∙ rw e
 
-  posts_any : PostsAny checks (λ _. m) (λ rule. rule) h t t' r → Posts h c t t' (transferred h r)
-  posts_any p = go (first (book_checks h t)) refl
-    where
-      go : (n : ℕ) → n ≡ first (book_checks h t) → Posts h c t t' (transferred h r)
-      go zero e = let u = p.on (sym e) in posts_known u.0 u.1
-      go (suc n) e =
-          let q = p.off (λ z. omega (arith, e, z)) in
-          rw (q.1) (posts_refusal h t c (suc n) r (off_number h t c (suc n) e (λ z. omega (arith, z))) (λ z. omega (arith, z)) (q.0 ∙ sym e))
+  done : Audited h t → first (checks (of_head h)) ≡ 0 → Carries h h.rule m t t' r → Posts h c t t' (transferred h r)
+  done w z p = let u = there (vessels_fit h t w) z in taking_done h t w c checks m is ok z u.0 u.1 t' r p
+
+  taking_known : Audited h t → PostsKnown checks (λ _. m) (λ rule. rule) h t t' r → Posts h c t t' (transferred h r)
+  taking_known = posted_known checks (λ _. m) (λ rule. rule) h t t' r c (Posts h c t t' (transferred h r)) (posts_refusal h t t' r c) own done
+
+  taking_posts : PostsAny checks (λ _. m) (λ rule. rule) h t t' r → Posts h c t t' (transferred h r)
+  taking_posts = posted checks (λ _. m) (λ rule. rule) h t t' r c (Posts h c t t' (transferred h r)) (posts_refusal h t t' r c) own done
 
 -- A transfer: what its checks tell.
 module _ (h : Head) (x : Transfer) where
@@ -176,11 +186,11 @@ module _ (h : Head) (x : Transfer) where
   module _ (t t' : List ℕ) (r : Result Carried Refusal) where
     pub transfer_known_posts : Audited h t → PostsKnown (λ g. transfer_checks g x) (λ _. motion_of x) (λ rule. rule) h t t' r → Posts h (post x) t t' (transferred h r)
     unfolding transfer_checks
-    transfer_known_posts w p = posts_known h t (post x) (λ g. transfer_checks g x) (motion_of x) refl (λ g. tt) holders_in t' r w p
+    transfer_known_posts w p = taking_known h t (post x) (λ g. transfer_checks g x) (motion_of x) refl (λ g. tt) holders_in t' r w p
 
     pub transfer_posts : (z : Transferred) → z ≡ transferred h r → PostsAny (λ g. transfer_checks g x) (λ _. motion_of x) (λ rule. rule) h t t' r → Posts h (post x) t t' z
     unfolding transfer_checks
-    transfer_posts z ez p = rw ez (posts_any h t (post x) (λ g. transfer_checks g x) (motion_of x) refl (λ g. tt) holders_in t' r p)
+    transfer_posts z ez p = rw ez (taking_posts h t (post x) (λ g. transfer_checks g x) (motion_of x) refl (λ g. tt) holders_in t' r p)
 
 -- A lift: the scale is bare, so that it has room for every weight of 32 bits.
 module _ (h : Head) (x : Lift) where
@@ -206,7 +216,7 @@ module _ (h : Head) (x : Lift) where
       → PostsAny (λ g. lift_checks g x) (λ _. lift_motion x) (λ rule. rule) h t t' r → Posts h (lift x) t t' z
   unfolding lift_checks
   lift_posts t t' r z ez p =
-      rw ez (posts_any h t (lift x) (λ g. lift_checks g x) (lift_motion x) refl (λ g. tt) (λ few q. let f = lift_passed q in (omega (arith, f.source_in), omega arith)) t' r p)
+      rw ez (taking_posts h t (lift x) (λ g. lift_checks g x) (lift_motion x) refl (λ g. tt) (λ few q. let f = lift_passed q in (omega (arith, f.source_in), omega arith)) t' r p)
 
 -- A tip: all that is on the scale goes whole, so that there is always a place for it.
 module _ (h : Head) (y : Tip) where
@@ -226,41 +236,27 @@ module _ (h : Head) (y : Tip) where
       })
 
   module _ (t t' : List ℕ) (r : Result Carried Refusal) where
-    module _ (w : Audited h t) where
-      tip_own : number_of h t (tip y) ≡ first (tip_checks (of_head h) y)
-      tip_own = number_is h t w (tip y) ∙ sym (ap (λ (g : Standing). first (tip_checks g y)) (standing h t w))
+    tip_own : Audited h t → (n : ℕ) → first (tip_checks (of_head h) y) ≡ n → number_of h t (tip y) ≡ n
+    tip_own w n e = number_is h t w (tip y) ∙ sym (ap (λ (g : Standing). first (tip_checks g y)) (standing h t w)) ∙ e
 
-      tip_done : first (tip_checks (of_head h) y) ≡ 0 → Carries h as_they_lie (tip_motion h.scale y) t t' r → Tips h y t t' (tipped h r)
-      unfolding applied table_left takes balance_at
-      tip_done z p =
-          let scale_is : h.scale ≡ held the_scale (pieces_of h.pieces t) = (k h t w).balance the_scale in
-          let motion_is : tip_motion h.scale y ≡ tip_on (book_of h t) y = ap (λ (n : ℕ). tip_motion n y) scale_is in
-          let q = rw motion_is at p in
-          let b = book_of h t in
-          let e : full (places_of t) (tip_on b y).moves (taken as_they_lie (tip_on b y).moves b.pieces) ≡ false = le-ltb (places_of t) (length (pieces_after b as_they_lie (tip_on b y))) (rw (tip_length b y) (k h t w).sound.fits) in
-          let ea : number_of h t (tip y) ≡ 0 = tip_own ∙ z in
-          let o = accepted_on h t (tip y) ea in
-          let s = (keeps (places_of t) b (tip y) (k h t w).sound (sym (number_same (places_of t) h t b (k h t w).on (k h t w).sound (tip y)) ∙ ea)).sound.sound in
-          let u : Holders h.vessels (pieces_after b as_they_lie (tip_on b y)) = all_map (λ q g. g.holder_in) s in
-          let f = tip_passed z in
-          let few = vessels_fit h t w in
-          let d : y.destination < most_holders = omega (arith, f.destination_in) in
-          record { answer = rw o (ap (tipped h) q.answer ∙ rw (e, next_head_is h t w as_they_lie (tip_on b y) (omega arith) d u)); table = rw o (q.table ∙ rw e) }
-
-    tip_known : Audited h t → PostsKnown (λ g. tip_checks g y) (λ weight. tip_motion weight y) (λ _. as_they_lie) h t t' r → Tips h y t t' (tipped h r)
-    tip_known w p = go (first (tip_checks (of_head h) y)) refl
-      where
-        go : (n : ℕ) → n ≡ first (tip_checks (of_head h) y) → Tips h y t t' (tipped h r)
-        go zero e = tip_done w (sym e) (p.carried (sym e))
-        go (suc n) e =
-            let q = p.refused (λ z. omega (arith, e, z)) in
-            rw (q.1) (tips_refusal h t y (suc n) r (tip_own w ∙ sym e) (λ z. omega (arith, z)) (q.0 ∙ sym e))
+    tip_done : Audited h t → first (tip_checks (of_head h) y) ≡ 0 → Carries h as_they_lie (tip_motion h.scale y) t t' r → Tips h y t t' (tipped h r)
+    unfolding applied table_left takes balance_at
+    tip_done w z p =
+        let scale_is : h.scale ≡ held the_scale (pieces_of h.pieces t) = (k h t w).balance the_scale in
+        let motion_is : tip_motion h.scale y ≡ tip_on (book_of h t) y = ap (λ (n : ℕ). tip_motion n y) scale_is in
+        let q = rw motion_is at p in
+        let b = book_of h t in
+        let e : full (places_of t) (tip_on b y).moves (taken as_they_lie (tip_on b y).moves b.pieces) ≡ false = le-ltb (places_of t) (length (pieces_after b as_they_lie (tip_on b y))) (rw (tip_length b y) (k h t w).sound.fits) in
+        let ea : number_of h t (tip y) ≡ 0 = tip_own w 0 z in
+        let o = accepted_on h t (tip y) ea in
+        let s = (keeps (places_of t) b (tip y) (k h t w).sound (sym (number_same (places_of t) h t b (k h t w).on (k h t w).sound (tip y)) ∙ ea)).sound.sound in
+        let u : Holders h.vessels (pieces_after b as_they_lie (tip_on b y)) = all_map (λ q g. g.holder_in) s in
+        let f = tip_passed z in
+        let few = vessels_fit h t w in
+        let d : y.destination < most_holders = omega (arith, f.destination_in) in
+        record { answer = rw o (ap (tipped h) q.answer ∙ rw (e, next_head_is h t w as_they_lie (tip_on b y) (omega arith) d u)); table = rw o (q.table ∙ rw e) }
 
     pub tip_posts : (z : Reply) → z ≡ tipped h r → PostsAny (λ g. tip_checks g y) (λ weight. tip_motion weight y) (λ _. as_they_lie) h t t' r → Tips h y t t' z
-    tip_posts z ez p = rw ez (go (first (book_checks h t)) refl)
-      where
-        go : (n : ℕ) → n ≡ first (book_checks h t) → Tips h y t t' (tipped h r)
-        go zero e = let u = p.on (sym e) in tip_known u.0 u.1
-        go (suc n) e =
-            let q = p.off (λ z. omega (arith, e, z)) in
-            rw (q.1) (tips_refusal h t y (suc n) r (off_number h t (tip y) (suc n) e (λ z. omega (arith, z))) (λ z. omega (arith, z)) (q.0 ∙ sym e))
+    tip_posts z ez p =
+        rw ez (posted (λ g. tip_checks g y) (λ weight. tip_motion weight y) (λ _. as_they_lie) h t t' r (tip y) (Tips h y t t' (tipped h r)) (tips_refusal h t t' r y)
+        (λ w n e. tip_own w (suc n) e) tip_done p)

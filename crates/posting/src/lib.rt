@@ -47,6 +47,7 @@ trait Posting: Copy {
 }
 
 // A posting on a book that is known to add up, with memory lent to work in: checks 1 and 4 are the caller's.
+#[tactic(auto, using(carrying::proofs::Next::vessels_fit))]
 fn post_known<P: Posting>(
     head: Head,
     table: &mut [u32],
@@ -107,6 +108,7 @@ fn tipped(head: Head, posted: Result<Carried, Refusal>) -> Reply
 }
 
 // A transfer on a book that is known to add up, with memory lent to work in.
+#[tactic(auto, using(crate::proofs::Posted::transfer_known_posts))]
 pub fn transfer_known(
     head: Head,
     table: &mut [u32],
@@ -120,6 +122,7 @@ pub fn transfer_known(
 }
 
 // A transfer of weight from source to destination at a minute, with the age of what is born.
+#[tactic(auto, using(crate::proofs::Posted::transfer_posts))]
 pub fn transfer(head: Head, table: &mut [u32], x: Transfer) -> Transferred
     ensures { Posts head (post x) table.old table.new result }
 {
@@ -127,6 +130,7 @@ pub fn transfer(head: Head, table: &mut [u32], x: Transfer) -> Transferred
 }
 
 // Weight taken from a vessel onto the scale at a minute, with the age of what is born.
+#[tactic(auto, using(crate::proofs::Posted::lift_posts))]
 pub fn lift(head: Head, table: &mut [u32], x: Lift) -> Transferred
     ensures { Posts head (lift x) table.old table.new result }
 {
@@ -134,6 +138,7 @@ pub fn lift(head: Head, table: &mut [u32], x: Lift) -> Transferred
 }
 
 // All that is on the scale tipped into a vessel at a minute.
+#[tactic(auto, using(crate::proofs::Posted::tip_posts))]
 pub fn tip(head: Head, table: &mut [u32], y: Tip) -> Reply
     ensures { Tips head y table.old table.new result }
 {

@@ -33,6 +33,7 @@ use Rattle.refusal.proofs.Refusals.{some_number}
 use Rattle.sheet.specs.declared.answer.Header.{Header}
 use Rattle.run.specs.Run.{not_run, Checked, transfer_in, transfer_at, transfers_of, Running, Gives, ended, go_on, run_from, run_number, running, Runnable}
 use Rattle.sheet.proofs.ReadLaws.{good}
+use Rattle.sheet.proofs.AnswerLaws.{number_read, read_zero, header}
 use Rattle.fields.proofs.GroupLaws.{length_groups, group_at, next_group}
 
 -- the transfer at index i, and those behind it
@@ -73,10 +74,6 @@ module _ (s : List ℕ) (m : ℕ) (h₀ : Head) (t₀ : List ℕ) (h : Head) (t 
   unfolding run_from
   here q = rw (next_transfer s i (rw able.count at q)) at g.left
 
-  -- what the next movement asks
-  pub going_makes : i < m → (read_number s ≡ 0) × (i < movements_of s) × Audited h t
-  going_makes q = (able.reads, rw able.count at q, g.audited)
-
   module _ (made : Transferred) (t' : List ℕ) (q : i < m) (posts : Posts h (post (transfer_at s i)) t t' made) where
     same_number : made.number ≡ o.number
     same_number = ap (λ (z : Transferred). z.number) posts.answer
@@ -92,9 +89,6 @@ module _ (s : List ℕ) (m : ℕ) (h₀ : Head) (t₀ : List ℕ) (h : Head) (t 
 
     -- it is accepted, and the run goes on
     module _ (z : made.number ≡ 0) (one : ℕ) (eo : (one ≡ if_zero (made.split + made.born) 1 0) × (one ≤ 1)) where
-      going_counts : even + one ≤ m
-      going_counts = omega (arith, g.some_even, eo.1)
-
       going_next : Going s m h₀ t₀ made.head t' (even + one) (i + 1)
       going_next =
           let known = known_up h t g.audited.sized g.audited.book_adds_up in
@@ -128,14 +122,6 @@ module _ (s : List ℕ) (m : ℕ) (h₀ : Head) (t₀ : List ℕ) (h : Head) (t 
       let f : ended 0 i even h t ≡ all = rw (drop_of_length-le (transfers_of s) {i = i} (rw (length_groups, ← able.count) q)) at g.left in
       record { answer_is = ap (λ (r : Running). r.answer) f; table_is = ap (λ (r : Running). r.table) f }
 
-pub going_start : (s : List ℕ) (m : ℕ) (h : Head) (t : List ℕ) → Runnable s m h t → Going s m h t h t 0 0
-going_start s m h t able = record { some_even = omega arith; audited = able.audited; left = refl; table_length = refl }
-
--- a movement as it is read is the transfer that is made
-pub made_as : (h : Head) (t s : List ℕ) (i : ℕ) (m : Movement) (z : Transferred) (t' : List ℕ) → m ≡ movement_at s i
-    → Posts h (post (transfer_of m.source m.destination m.minute m.weight m.age)) t t' z → Posts h (post (transfer_at s i)) t t' z
-made_as h t s i m z t' e p = rw e at p
-
 -- an opening that is not refused gives the fresh head
 pub fresh_opened : (rule size : ℕ) → first (open_checks rule size) ≡ 0 → (opening rule size).head ≡ empty_head rule size
 unfolding opening
@@ -149,39 +135,25 @@ pub opened_well : (s : List ℕ) → read_number s ≡ 0 → (opening (rule_of s
 unfolding opening
 opened_well s e = rw (opens_well s e)
 
--- what reading tells
-module _ (s : List ℕ) where
-  read_zero : (h : Header) → reading_of (Ok h) ≡ reading s → (read_number s ≡ 0) × (h ≡ header_numbers s)
-  read_zero h e = go (read_number s) e
-    where
-      go : (n : ℕ) → reading_of (Ok h) ≡ if_zero n (header_of s) (refused_reading n) → (n ≡ 0) × (h ≡ header_numbers s)
-      go zero q = (refl, ap (λ (r : Reading). record { rule = r.rule; vessels = r.vessels; movements = r.movements }) q)
-      go (suc n) q = absurd (omega (arith, ap (λ (r : Reading). r.number) q))
-
-  read_refused : (why : Refusal) → refused_reading (number_of why) ≡ reading s → number_of why ≡ read_number s
-  read_refused why e = ap (λ (r : Reading). r.number) e ∙ go (read_number s)
-    where
-      go : (n : ℕ) → (if_zero n (header_of s) (refused_reading n)).number ≡ n
-      go zero = refl
-      go (suc n) = refl
-
 -- the ways out of `check`
 module _ (s t : List ℕ) where
   pub unread : (r : Result Header Refusal) (why : Refusal) → IsErrAnd r (λ (other : Refusal). other ≡ why) → refused_reading (number_of why) ≡ reading s → Checked s t r
   unfolding run_number
   unread (Ok h) why is e = absurd is
   unread (Err other) why is e =
-      let n : number_of other ≡ read_number s = ap number_of is ∙ read_refused s why e in
+      let n : number_of other ≡ read_number s = ap number_of is ∙ number_read s (refused_reading (number_of why)) e in
       rw (← n) (not_zero (number_of other) _ (number_of other) (some_number other))
 
   module _ (h : Header) (e : reading_of (Ok h) ≡ reading s) where
     pub no_place : length t < 4 → Checked s t (Err TableShort)
     unfolding run_number
-    no_place short = rw ((read_zero s h e).0, lt-ltb (length t) 4 short)
+    no_place short = rw (read_zero s (reading_of (Ok h)) e refl, lt-ltb (length t) 4 short)
 
     pub can_begin : 4 ≤ length t → Checked s t (Ok h)
     unfolding run_number
-    can_begin long = let z = read_zero s h e in (rw (z.0, le-ltb (length t) 4 long), z.1)
+    can_begin long =
+        let same = ap (λ (r : Reading). record { rule = r.rule; vessels = r.vessels; movements = r.movements }) (header s (reading_of (Ok h)) e refl) in
+        (rw (read_zero s (reading_of (Ok h)) e refl, le-ltb (length t) 4 long), same)
 
 -- the ways out of `run`
 module _ (s t : List ℕ) where

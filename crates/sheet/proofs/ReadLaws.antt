@@ -10,7 +10,7 @@ use Rattle.book.specs.Head.{open_checks}
 use Rattle.fields.specs.Layout.{most_movements, header_size, names_at, entries_at, length_at, entries_start, sheet_size, movements_off, Within}
 use Rattle.sheet.specs.Sheet.{entries_read, names_read, rule_of, vessels_of, movements_of, layout_off, no_sheet, header_checks, body_checks, read_number}
 use Rattle.fields.proofs.LayoutLaws.{few_movements}
-use Rattle.fields.proofs.ByteLaws.{rest_part}
+use Rattle.std.proofs.lemmas.List.{take_rest}
 use Rattle.book.proofs.HeadLaws.{Openable, openable}
 
 -- What a header lays down that passes its checks.
@@ -62,11 +62,11 @@ body_fits s n vessels movements e z ev em =
 -- the ways out of `check_body`
 module _ (s : List ℕ) (vessels movements : ℕ) (off : Bool) (e : off ≡ names_off (names_in vessels (take (length s - header_size) (drop header_size s)))) where
   names_say : off ≡ names_off (names_in vessels (drop header_size s))
-  names_say = rw rest_part at e
+  names_say = rw take_rest at e
 
   pub out_entries : (n : ℕ) → off ≡ false → n ≡ first (entries_checks (entry_checks vessels) (entries_in movements (take (length s - (entries_start vessels)) (drop (entries_start vessels) s))))
       → n ≡ first (body_checks vessels movements s)
-  out_entries n q en = rw (← names_say, q) (rw rest_part at en)
+  out_entries n q en = rw (← names_say, q) (rw take_rest at en)
 
 -- the ways out of `read_header`, by the numbers
 module _ (s : List ℕ) (n : ℕ) (e : n ≡ first (header_checks s)) where

@@ -9,9 +9,3 @@ move_pieces-requires c = search (rules, move_ready)
 pub next_head-requires : goal.next_head-requires
 next_head-requires c =
     move_countable _ _ c.requires.0 _ _ c.requires.1 _ c.places-places.ensures _ _ c.move_pieces.ensures _ _ c.ok_or.ensures.value c.in_ok-moved.was
-
-pub returns : goal.returns
-returns c = search (rules, carries)
-
-pub returns-in_err-moved : goal.returns-in_err-moved
-returns-in_err-moved c = search (rules, carries_none)

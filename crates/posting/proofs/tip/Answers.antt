@@ -1,7 +1,0 @@
--- `tip` meets its contract: what is answered to its posting is the call on head and table.
-use Rattle.posting.proofs.Posted.{tip_posts}
-use Rattle.std.proofs.Common.{rules}
-use Rattle.posting.proofs.tip.Goals as goal
-
-pub returns : goal.returns
-returns c = search (rules, tip_posts)
