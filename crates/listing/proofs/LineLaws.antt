@@ -1,18 +1,16 @@
 -- Laws of the lines: those of pieces are written one behind the other, so that a line behind those of the first pieces makes those of
 -- one more; the last line; and the two ways to list a run. Assumes nothing.
-use Rattle.std.proofs.Common.{ℕ, ◌+◌, ◌<◌, ◌≤◌, zero-add, arith, ◌≡◌, sym, ap, ◌∙◌, List, [], ◌∷◌, ◌++◌, append-nil, append_assoc, length, take}
-use Rattle.std.proofs.lemmas.List.{take_all, take_more}
+use Rattle.std.proofs.Common.{ℕ, suc, ◌*◌, length-append, ◌+◌, ◌≤◌, zero-add, arith, ◌≡◌, sym, ap, ◌∙◌, List, [], ◌∷◌, ◌++◌, append-nil, append_assoc, length}
 use lib.Seq.{sets-eq}
 use Rattle.refusal.proofs.Numbers.{not_zero}
 use Rattle.table.specs.declared.Piece.{Piece}
-use Rattle.table.specs.Pieces.{no_piece}
-use Rattle.table.specs.Table.{pieces_of, piece_in}
+use Rattle.table.specs.Table.{pieces_of}
 use Rattle.table.proofs.Table.{length_pieces}
 use Rattle.run.specs.declared.Ran.{Ran}
 use Rattle.text.specs.declared.Writer.{Writer}
-use Rattle.text.specs.Writing.{Written, Writes}
+use Rattle.text.specs.Writing.{Room, Writes}
 use Rattle.text.proofs.TextLaws.{none_written, then_written}
-use Rattle.listing.specs.Listing.{Listed, piece_line, piece_lines, stopped_line, last_line, refused_line, book_text, listing_text, last_size, refused_size, room_for}
+use Rattle.listing.specs.Listing.{Listed, piece_line, piece_lines, stopped_line, last_line, refused_line, book_text, listing_text, piece_size, last_size, refused_size, room_for}
 
 -- the line of a piece behind lines
 lines_then : (ps : List Piece) (p : Piece) → piece_lines (ps ++ (p ∷ [])) ≡ piece_lines ps ++ piece_line p
@@ -20,24 +18,34 @@ unfolding piece_lines
 lines_then [] p = append-nil _
 lines_then (q ∷ ps) p = ap (λ (l : List ℕ). piece_line q ++ l) (lines_then ps p) ∙ sym (append_assoc (piece_line q) (piece_lines ps) (piece_line p))
 
--- no line is written
-pub no_lines : (w : Writer) (size : ℕ) → Writes w (piece_lines []) size w
+-- Where the lines of all pieces stand before the pieces left: those of the pieces so far are written.
+pub record InLines (w : Writer) (all ps left : List Piece) (w₁ : Writer) : Type 0 where
+  pub parts : ps ++ left ≡ all
+  pub lines : Writes w (piece_lines ps) (piece_size * length ps) w₁
+
+pub lines_start : (w : Writer) {all left : List Piece} → left ≡ all → InLines w all [] left w
 unfolding piece_lines
-no_lines w size = none_written w size
+lines_start w e = record { parts = e; lines = none_written w 0 }
 
-module _ (t : List ℕ) (n i : ℕ) where
-  -- the lines of the first i pieces
-  abbrev first : List ℕ
-  first = piece_lines (take i (pieces_of n t))
+module _ {w w₁ : Writer} {all ps left rest : List Piece} {p : Piece} (k : InLines w all ps left w₁) (e : left ≡ p ∷ rest) where
+  count : length all ≡ length ps + suc (length rest)
+  count = rw (← k.parts, e, length-append)
 
-  -- the line of a piece behind those of the pieces before it
-  pub one_more : {w w₁ w₂ : Writer} {p : Piece} → i < n → p ≡ piece_in n t i → Written w first w₁ → Written w₁ (piece_line p) w₂
-      → Written w (piece_lines (take (i + 1) (pieces_of n t))) w₂
-  one_more h e p q = rw (take_more (pieces_of n t) i no_piece (rw length_pieces h), lines_then, ← e) (then_written p q)
+  pub line_fits : Room w (piece_size * length all) → Room w₁ piece_size
+  line_fits h = omega (arith, count, k.lines.1, k.lines.0.same_length)
 
-  -- the lines of all pieces
-  pub all_lines : {w w₁ : Writer} → n ≤ i → Written w first w₁ → Written w (piece_lines (pieces_of n t)) w₁
-  all_lines h p = rw (take_all i (pieces_of n t) (rw length_pieces h)) at p
+  pub line_written : {w₂ : Writer} → Writes w₁ (piece_line p) piece_size w₂ → InLines w all (ps ++ (p ∷ [])) rest w₂
+  line_written q = record {
+    parts = rw append_assoc (rw e at k.parts);
+    lines = (rw lines_then (then_written k.lines.0 q.0), rw length-append (omega (arith, k.lines.1, q.1)));
+  }
+
+pub lines_end : {w w₁ : Writer} {all ps left : List Piece} → InLines w all ps left w₁ → left ≡ [] → Writes w (piece_lines all) (piece_size * length all) w₁
+lines_end {w} {w₁} {all} {ps} {left} k e = let q : ps ≡ all = sym (append-nil ps) ∙ (rw e at k.parts) in rw (← q) k.lines
+
+-- how many pieces there are
+pub pieces_count : (ps : List Piece) (n : ℕ) (t : List ℕ) → ps ≡ pieces_of n t → length ps ≡ n
+pieces_count ps n t e = rw e (length_pieces n t)
 
 -- the last line, if there is one
 module _ (w w' : Writer) (index number : ℕ) where

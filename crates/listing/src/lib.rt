@@ -2,7 +2,6 @@
 #![tactic(auto)]
 
 ghost use Rattle.std.specs.Prelude.{◌*◌, ◌≤◌, length};
-ghost use Rattle.table.specs.Table.{pieces_of};
 ghost use Rattle.text.specs.Writing.{Room, Writes};
 ghost use Rattle.listing.specs.Listing.{first_line, piece_line, piece_lines, last_line, listing_of};
 ghost use Rattle.listing.specs.Listing.{Listed, ListsSheet, first_size, piece_size, last_size, room_for, listing_room};
@@ -10,6 +9,7 @@ ghost use Rattle.listing.specs.Listing.{Listed, ListsSheet, first_size, piece_si
 use book::Head;
 use run::Ran;
 use table::Piece;
+use table::reading::Pieces;
 use text::Writer;
 
 // The most bytes of the first line, of a piece's and of the last.
@@ -47,13 +47,13 @@ fn put_piece(out: &mut Writer, p: Piece)
     out.put_text(b"\n");
 }
 
-// The lines of n pieces.
-fn put_pieces(out: &mut Writer, table: &[u32], n: usize)
-    requires { (4 * n ≤ length table.now) × Room out.old (piece_size * n) }
-    ensures { Writes out.old (piece_lines (pieces_of n table.now)) (piece_size * n) out.new }
+// The lines of the pieces.
+fn put_pieces(out: &mut Writer, pieces: &Pieces)
+    requires { Room out.old (piece_size * length pieces.now) }
+    ensures { Writes out.old (piece_lines pieces.now) (piece_size * length pieces.now) out.new }
 {
-    for i in 0..n {
-        put_piece(out, table::piece_at(table, n, i));
+    for p in pieces {
+        put_piece(out, p);
     }
 }
 
@@ -79,7 +79,7 @@ fn put_run(out: &mut Writer, ran: Ran, table: &[u32])
         out.put_text(b"\n");
     } else {
         put_first(out, ran.head, ran.even);
-        put_pieces(out, table, ran.head.pieces as usize);
+        put_pieces(out, &Pieces::of(table, ran.head.pieces as usize));
         put_last(out, ran.index, ran.number);
     }
 }

@@ -1,13 +1,15 @@
 -- `put_pieces`: the line of each piece is written behind those of the pieces before it.
-use Rattle.std.proofs.Common.{rules}
-use Rattle.listing.proofs.LineLaws.{no_lines, one_more, all_lines}
+use Rattle.listing.proofs.LineLaws.{lines_start, line_fits, line_written, lines_end}
 use Rattle.listing.proofs.put_pieces.Goals as goal
 
-pub loop-i-init : goal.loop-i-init
-loop-i-init c = no_lines _ _
+pub loop-p-init : goal.loop-p-init
+loop-p-init c = lines_start _ c.into_iter-p-iterator.ensures.into_iter_gives
 
-pub loop-i-preserved : goal.loop-i-preserved
-loop-i-preserved c = search (rules, one_more)
+pub loop-p-preserved : goal.loop-p-preserved
+loop-p-preserved c = line_written c.loop-p.invariant c.in-Some.ensures.steps c.put_piece.ensures
+
+pub put_piece-requires : goal.put_piece-requires
+put_piece-requires c = line_fits c.loop-p.invariant c.in-Some.ensures.steps c.requires
 
 pub returns : goal.returns
-returns c = search (rules, all_lines)
+returns c = lines_end c.loop-p.invariant c.in-None.ensures.steps.0

@@ -1,9 +1,6 @@
--- The lines of the first i pieces are written.
-use Rattle.std.proofs.Common.{◌*◌, take}
-use Rattle.table.specs.Table.{pieces_of}
-use Rattle.text.specs.Writing.{Writes}
-use Rattle.listing.specs.Listing.{piece_lines, piece_size}
+-- The lines of the pieces so far are written.
+use Rattle.listing.proofs.LineLaws.{InLines}
 use Rattle.listing.proofs.put_pieces.Given as goal
 
-abbrev pub invariant-loop-i : goal.invariant-loop-i
-invariant-loop-i l = Writes l.initial.out (piece_lines (take l.i (pieces_of l.n l.table))) (piece_size * l.i) l.out
+abbrev pub invariant-loop-p : goal.invariant-loop-p
+invariant-loop-p l = InLines l.initial.out l.pieces l.yielded l.p-iterator l.out
