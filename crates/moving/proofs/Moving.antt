@@ -49,8 +49,9 @@ by_next f a h c ks = go (ltb c (length ks)) refl
     go false e = ap f (drop_of_length-le ks {i = c} (ltb-false _ _ e))
 
 module _ {n places rule : ℕ} {m : Move} {t : List ℕ} (ready : Ready n places m t)
-    {o : Order} (ordered : Ordered n rule m.source o t)
-    {r : Plan} (plan : r ≡ plan_from 0 (in_order o) m.weight (pieces_of n t)) where
+    {read : List Piece} (read_is : read ≡ pieces_of n t)
+    {o : Order} (ordered : Ordered rule m.source o read)
+    {r : Plan} (plan : r ≡ plan_from 0 (in_order o) m.weight read) where
   abbrev ps : List Piece
   ps = pieces_of n t
 
@@ -67,10 +68,10 @@ module _ {n places rule : ℕ} {m : Move} {t : List ℕ} (ready : Ready n places
   unfolding planned
   by_plan =
       let h : length ps ≤ most_places = rw length_pieces (omega (arith, ready.pieces, ready.most)) in
-      taken_planned rule m ps ready.source h ready.present ∙ rw (plan, ordered.order)
+      taken_planned rule m ps ready.source h ready.present ∙ rw (plan, ordered.order, read_is)
 
   whole_most : r.whole ≤ count_of o
-  whole_most = rw plan (omega (arith, length_order, plan_most ks 0 m.weight ps))
+  whole_most = rw plan (omega (arith, length_order, plan_most ks 0 m.weight read))
 
   rest : length taking.rest + taking.whole ≡ n
   rest = let l = taken_law rule m ps in omega (arith, l.fair.longer, l.counted, length_pieces n t)
@@ -106,7 +107,7 @@ module _ {n places rule : ℕ} {m : Move} {t : List ℕ} (ready : Ready n places
               places = omega (arith, ready.pieces, ready.most);
               pieces = omega (arith, ready.pieces, ready.room);
               goes = whole_most;
-              order = omega (arith, ordered.most, ready.pieces, ready.most);
+              order = omega (arith, ordered.most, ap length read_is, length_pieces n t, ready.pieces, ready.most);
               above = above;
             },
             record { rest = rw by_plan at rest; fits = rw by_plan at f },

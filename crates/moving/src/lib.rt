@@ -6,6 +6,7 @@ ghost use Rattle.std.specs.Prelude.{◌≡◌};
 ghost use Rattle.moving.specs.Applied.{Ready, Moves};
 ghost use Rattle.moving.specs.Workspace.{blank};
 
+use table::reading::Pieces;
 use taking::Move;
 
 mod apply; // apply.rt: a plan is applied
@@ -63,15 +64,15 @@ pub fn move_pieces(
     requires { Ready n places m table.old }
     ensures { Moves n places rule m table.old table.new result }
 {
+    let pieces = Pieces::of(table, n);
     let order = picking::selection::picking_order(
-        table,
-        n,
+        &pieces,
         rule,
         m.source,
         &mut work.keys,
         &mut work.spare,
     );
-    let plan = picking::plan::plan_of(table, n, order, m.weight);
+    let plan = picking::plan::plan_of(&pieces, order, m.weight);
     if plan.is_full(n, places) {
         return None;
     }

@@ -1,9 +1,9 @@
 // The plan of a transfer. Nothing is written.
-ghost use Rattle.std.specs.Prelude.{◌≡◌, cond, false, ◌≤◌, ◌*◌, eqb, leb, length};
-ghost use Rattle.table.specs.Table.{pieces_of};
+ghost use Rattle.std.specs.Prelude.{◌≡◌, cond, false, eqb, leb};
 ghost use Rattle.picking.specs.Plan.{in_order, plan_from};
 
 use crate::selection::Order;
+use table::reading::Pieces;
 
 // How many pieces go whole, and the weight still wanted then.
 #[derive(Clone, Copy, PartialEq, Eq, Debug)]
@@ -22,13 +22,12 @@ impl Plan {
 }
 
 // The plan for a weight, with the keys in order.
-pub fn plan_of(table: &[u32], n: usize, order: Order, weight: u32) -> Plan
-    requires { 4 * n ≤ length table.now }
-    ensures { result ≡ plan_from 0 (in_order order.entry) weight (pieces_of n table.now) }
+pub fn plan_of(pieces: &Pieces, order: Order, weight: u32) -> Plan
+    ensures { result ≡ plan_from 0 (in_order order.entry) weight pieces.now }
 {
     let mut left = weight;
     for c in 0..order.keys.len() {
-        let p = table::piece_or_default(table, n, order.nth(c));
+        let p = pieces.get(order.nth(c)).unwrap_or_default();
         if left == 0 || left < p.weight {
             return Plan { whole: c, left };
         }
