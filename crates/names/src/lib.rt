@@ -45,6 +45,7 @@ fn used_again(names: &[u8], vessels: usize, i: usize) -> bool
 }
 
 // Whether the name of vessel i is ill-formed, or used again behind it.
+#[tactic(auto, using(crate::proofs::NameLaws::ill_formed, crate::proofs::NameLaws::not_ill_formed))]
 fn name_off(names: &[u8], vessels: usize, i: usize) -> bool
     requires { (i < vessels) × (name_size * vessels ≤ length names.now) }
     ensures { result ≡ name_off (name_at vessels names.now i) (names_behind vessels names.now i) }
@@ -53,6 +54,7 @@ fn name_off(names: &[u8], vessels: usize, i: usize) -> bool
 }
 
 // Whether a name is ill-formed or used twice. The count is told, since the bytes may go on behind the names, as in a sheet.
+#[tactic(auto, using(fields::proofs::GroupLaws::scan_turn, fields::proofs::GroupLaws::scan_stop, fields::proofs::GroupLaws::scan_end))]
 pub fn names_off(names: &[u8], vessels: usize) -> bool
     requires { name_size * vessels ≤ length names.now }
     ensures { result ≡ names_off (names_in vessels names.now) }

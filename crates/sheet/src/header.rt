@@ -34,6 +34,7 @@ fn no_sheet(sheet: &[u8]) -> bool
 }
 
 // Whether an offset, the length field or the real length is wrong.
+#[tactic(auto, unfolding(crate::specs::Sheet::layout_off))]
 fn layout_off(sheet: &[u8], vessels: u32, movements: u32) -> bool
     requires { (header_size ≤ length sheet.now) × Within vessels movements }
     ensures { result ≡ layout_off vessels movements sheet.now }
@@ -47,6 +48,7 @@ fn layout_off(sheet: &[u8], vessels: u32, movements: u32) -> bool
 }
 
 // The first check that the header's numbers fail.
+#[tactic(auto, using(crate::proofs::HeaderLaws::few_vessels, fields::proofs::LayoutLaws::few_movements))]
 fn check_fields(sheet: &[u8], header: Header) -> Result<(), Refusal>
     requires { header_size ≤ length sheet.now }
     ensures { outcome_number result ≡ first (field_checks header.rule header.vessels header.movements sheet.now) }
@@ -62,6 +64,7 @@ fn check_fields(sheet: &[u8], header: Header) -> Result<(), Refusal>
 }
 
 // The first check that the header fails.
+#[tactic(auto, using(crate::proofs::HeaderLaws::sheet_holds))]
 pub fn check_header(sheet: &[u8]) -> Result<(), Refusal>
     ensures { outcome_number result ≡ first (header_checks sheet.now) }
 {

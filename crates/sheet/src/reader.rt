@@ -12,6 +12,7 @@ use fields::layout::{HEADER_SIZE, name_start};
 use refusal::Refusal;
 
 // The first check that what lies behind the header fails.
+#[tactic(auto, using(crate::proofs::ReadLaws::out_entries))]
 fn check_body(sheet: &[u8], vessels: u32, movements: u32) -> Result<(), Refusal>
     requires { Within vessels movements × (length sheet.now ≡ sheet_size vessels movements) }
     ensures { outcome_number result ≡ first (body_checks vessels movements sheet.now) }

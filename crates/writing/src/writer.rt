@@ -36,6 +36,7 @@ impl Draft<'_> {
     }
 
     // Whether the name bytes are not 8 for each vessel, or the numbers not 5 for each movement.
+    #[tactic(auto, unfolding(crate::specs::Writing::given_off))]
     fn is_off(&self) -> bool
         requires { self.now.vessels ≤ most_vessels }
         ensures { result ≡ given_off self.now.vessels self.now.names.now self.now.numbers.now }
@@ -83,6 +84,7 @@ impl Draft<'_> {
     }
 
     // Puts the sheet at the start of `out`.
+    #[tactic(auto, using(crate::proofs::SheetPut::sheet_put))]
     pub fn put(&self, out: &mut [u8])
         requires { Within self.now.vessels (count_given self.now.numbers.now) × (length self.now.names.now ≡ name_size * self.now.vessels)
             × (sheet_size self.now.vessels (count_given self.now.numbers.now) ≤ length out.old) }
@@ -120,6 +122,7 @@ fn put_layout(out: &mut [u8], header: Header)
     put_number(out, LENGTH_AT, 4, size as u32);
 }
 
+#[tactic(auto, using(crate::proofs::SheetPut::header_put))]
 fn put_header(out: &mut [u8], header: Header)
     requires { (header_size ≤ length out.old) × Within header.vessels header.movements }
     ensures { out.new ≡ sets out.old 0 (header_bytes header.rule header.vessels header.movements) }
