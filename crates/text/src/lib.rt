@@ -11,6 +11,7 @@ use itoa::Buffer;
 pub mod parsing; // parsing.rt: the numbers of a text
 
 // Bytes that are filled from the front: what is written next goes to `at`.
+// Not a writer for `write!`, which doesn't promise to succeed where there is room.
 #[derive(Drop)]
 pub struct Writer<'a> {
     out: &'a mut [u8],
@@ -19,11 +20,11 @@ pub struct Writer<'a> {
 
 impl<'a> Writer<'a> {
     // Writes from the start of the bytes.
-    pub fn new(out: &'a mut [u8]) -> Writer<'a>
+    pub fn new(out: &'a mut [u8]) -> Self
         ensures same_bytes { result.out.ghost_name ≡ out.entry.ghost_name }
         ensures nothing { (result.out.now ≡ out.old) × (result.at ≡ 0) }
     {
-        Writer { out, at: 0 }
+        Self { out, at: 0 }
     }
 
     // How many bytes are written.
