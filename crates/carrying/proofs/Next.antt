@@ -1,11 +1,10 @@
--- A motion on a book known to add up: the pieces moved and the next head are together the book after it. And so a call, by its checks and the motion
--- that it is, is the call on head and table: a transfer, a lift and a tip.
+-- A motion on a book known to add up: the pieces moved and the next head are together the book after it.
 -- Assumes nothing.
 use Rattle.std.specs.Prelude.{unwrap_or}
 use Rattle.std.specs.Option.{ok_or}
-use Rattle.std.specs.Result.{result_ok, result_err}
+use Rattle.std.specs.Result.{result_ok}
 use Rattle.std.proofs.lemmas.Option.{none-some}
-use Rattle.std.proofs.Common.{◌≡◌, refl, sym, ap, ◌∙◌, Bool, true, false, cond, Option, None, Some, Result, Ok, Err, List, ℕ, ◌+◌, ◌-◌, ◌≤◌, ◌<◌, arith, eqb, length, ltb-false}
+use Rattle.std.proofs.Common.{◌≡◌, refl, sym, ap, ◌∙◌, Bool, true, false, cond, Option, None, Some, Result, Ok, List, ℕ, ◌+◌, ◌-◌, ◌≤◌, ◌<◌, arith, eqb, length, ltb-false}
 use Rattle.table.specs.Pieces.{only, held}
 use Rattle.table.specs.Table.{pieces_of, places_of}
 use Rattle.table.proofs.Pieces.{all_map}
@@ -16,9 +15,7 @@ use Rattle.moving.specs.Applied.{full, accepted, applied, Ready, Moves}
 use Rattle.refusal.specs.Numbers.{first}
 use Rattle.book.specs.declared.Head.{Head}
 use Rattle.book.specs.declared.Motion.{Motion}
-use Rattle.carrying.specs.declared.Carried.{Carried}
 use Rattle.refusal.specs.declared.Refusal.{Refusal}
-use Rattle.refusal.specs.declared.Refusal.TheVariants.{TableFull}
 use Rattle.book.specs.Head.{Book, most_vessels, most_holders, Sized, Shiftable, balance_at, with_balance, holdings, shifted, head_of, book_of}
 use Rattle.book.specs.Motion.{takes, pieces_after, book_after}
 use Rattle.book.specs.Memory.{book_checks}
@@ -27,7 +24,7 @@ use Rattle.book.proofs.BalanceLaws.{Holders, Matches, matches_balances, long_bal
 use Rattle.book.proofs.Sound.{takes_law, held_after}
 use Rattle.book.proofs.Memory.{book_passed}
 use Rattle.book.proofs.Known.{Known, known_up}
-use Rattle.carrying.specs.Carrying.{Audited, Carriable, next_head, Countable, concluded, Carries}
+use Rattle.carrying.specs.Carrying.{Audited, Carriable, next_head, Countable}
 
 -- past 1 and 4
 pub audited : (h : Head) (t : List ℕ) (n : ℕ) → (n ≡ first (book_checks h t)) × Sized h → n ≡ 0 → Audited h t
@@ -101,9 +98,9 @@ module _ (h : Head) (t : List ℕ) (w : Audited h t) (rule : ℕ) (m : Motion) w
     }
 
     module _ (p : ℕ) (ep : p ≡ places_of t) (t' : List ℕ) (o : Option Applied) (moves : Moves h.pieces p rule m.moves t t' o) where
-      -- it was carried
-      module _ (a : Applied) (k : Result Applied Refusal) (ek : k ≡ ok_or o TableFull) (ea : k ≡ Ok a) where
-        some_is : (o : Option Applied) → ok_or o TableFull ≡ Ok a → o ≡ Some a
+      -- it was carried, whatever is answered where it was not
+      module _ (a : Applied) (why : Refusal) (k : Result Applied Refusal) (ek : k ≡ ok_or o why) (ea : k ≡ Ok a) where
+        some_is : (o : Option Applied) → ok_or o why ≡ Ok a → o ≡ Some a
         some_is None e = absurd (none-some a (ap result_ok e))
         some_is (Some b) e = ap result_ok e
 
@@ -126,17 +123,3 @@ module _ (h : Head) (t : List ℕ) (w : Audited h t) (rule : ℕ) (m : Motion) w
                   shifts = shifts;
                   tally = f.tally;
                 })
-
-        pub carries : (z : Result Carried Refusal) → z ≡ concluded h m (Some a) → Carries h rule m t t' z
-        carries z ez = record { answer = ez ∙ ap (concluded h m) (sym (some_is o (sym ek ∙ ea)) ∙ moves.answer ∙ rw ep); table = moves.table ∙ rw ep }
-
-      -- there was no place
-      module _ (k : Result Applied Refusal) (ek : k ≡ ok_or o TableFull) (e : Refusal) (ee : k ≡ Err e) where
-        none_is : (o : Option Applied) → ok_or o TableFull ≡ Err e → (o ≡ None) × (e ≡ TableFull)
-        none_is None q = (refl, sym (ap (λ (x : Option Refusal). unwrap_or x e) (ap result_err q)))
-        none_is (Some b) q = absurd (none-some e (ap result_err q))
-
-        pub carries_none : Carries h rule m t t' (Err e)
-        carries_none =
-            let n = none_is o (sym ek ∙ ee) in
-            record { answer = rw n.1 (ap (concluded h m) (sym n.0 ∙ moves.answer ∙ rw ep)); table = moves.table ∙ rw ep }

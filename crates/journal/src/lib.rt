@@ -96,6 +96,7 @@ fn check_ages(n: usize, calls: &[u32]) -> Result<(), Refusal>
 }
 
 // The checks of a list of n calls: those of opening, then its ages.
+#[tactic(auto, using(crate::proofs::Carrying::list_unopened, crate::proofs::Carrying::list_opened))]
 fn check_list(rule: u32, vessels: u32, n: usize, calls: &[u32]) -> Result<(), Refusal>
     requires { call_size * n ≤ length calls.now }
     ensures { outcome_number result ≡ first (open_checks rule vessels ++ (18 if ages_off n calls.now) ∷ []) }

@@ -1,5 +1,5 @@
--- `carry` meets its contract: the pieces are moved, or there was no place, and the answer says which.
-use Rattle.carrying.proofs.Next.{move_ready, move_countable, carries, carries_none}
+-- `carry` meets its contract: what the move and the next head ask.
+use Rattle.carrying.proofs.Next.{move_ready, move_countable}
 use Rattle.std.proofs.Common.{rules}
 use Rattle.carrying.proofs.carry.Goals as goal
 
@@ -8,4 +8,4 @@ move_pieces-requires c = search (rules, move_ready)
 
 pub next_head-requires : goal.next_head-requires
 next_head-requires c =
-    move_countable _ _ c.requires.0 _ _ c.requires.1 _ c.places-places.ensures _ _ c.move_pieces.ensures _ _ c.ok_or.ensures.value c.in_ok-moved.was
+    move_countable _ _ c.requires.0 _ _ c.requires.1 _ c.places-places.ensures _ _ c.move_pieces.ensures _ _ _ c.ok_or.ensures.value c.in_ok-moved.was
