@@ -7,7 +7,8 @@ ghost use Rattle.table.specs.Table.{pieces_of};
 use crate::Piece;
 use std::marker::Model;
 
-// The pieces of a book, read from the table that they lie in: four numbers for each.
+// The pieces of a book, read from the table that they lie in: four numbers for each. A type with a view and a lifetime cannot be `Copy`,
+// so functions take it by reference.
 #[derive(Drop)]
 pub struct Pieces<'a> {
     numbers: &'a [u32],
