@@ -244,7 +244,7 @@ function print_type(text) {
 }
 
 function print_function(text,    at, clause) {
-    at = match(text, / +(requires|ensures|ghost)( [a-z_]+)? *[{]/)
+    at = match(text, / +(requires|ensures|ghost)( [A-Za-z_]+)? *[{]/)
     clause = at ? substr(text, at) : ""
     if (at) text = substr(text, 1, at - 1)
     sub(/^pub /, "", text)
