@@ -13,6 +13,7 @@ use refusal::Refusal;
 use sheet::answer::Movement;
 
 // Puts the five numbers of a movement from `at` on.
+#[tactic(auto, using(fields::proofs::PutLaws::part_put))]
 fn put_movement(numbers: &mut [u32], at: usize, m: Movement)
     requires { at + given_size ≤ length numbers.old }
     ensures { numbers.new ≡ sets numbers.old at (movement_numbers m) }
