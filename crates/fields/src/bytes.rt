@@ -1,4 +1,4 @@
-// Numbers in bytes, the low byte first.
+// Numbers in bytes, the low byte first. `at` is where a field lies in a sheet: a slice from there on would only move the sum to the call.
 ghost use Rattle.std.specs.Prelude.{◌≡◌, ◌<◌, ◌≤◌, ◌+◌, length, drop};
 ghost use Rattle.std.proofs.lemmas.List.Edits.{sets};
 ghost use Rattle.fields.specs.Bytes.{value_in, bytes_of};

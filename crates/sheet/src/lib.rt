@@ -93,7 +93,7 @@ fn check_vessel(sheet: &[u8], vessel: u32) -> Result<(), Refusal>
     Ok(())
 }
 
-// The number of asking for a vessel's name.
+// The number of asking for a vessel's name: C has no `Result`.
 pub fn name_number(sheet: &[u8], vessel: u32) -> u32
     ensures { result ≡ name_number sheet.now vessel }
 {

@@ -33,7 +33,7 @@ pub fn try_write(
     Ok(())
 }
 
-// The same, answered by a number.
+// The same, answered by a number: C has no `Result`.
 pub fn write(rule: u32, vessels: u32, names: &[u8], numbers: &[u32], out: &mut [u8]) -> u32
     ensures number { result ≡ write_number rule vessels names.now numbers.now (length out.old) }
     ensures bytes { out.new ≡ written rule vessels names.now numbers.now out.old }
