@@ -10,7 +10,7 @@ use crate::layout::{ENTRY_SIZE, GIVEN_SIZE};
 use refusal::Refusal;
 
 // A movement as the sheet has it. The age that the writer is given may be too large for its two bytes.
-#[derive(Clone, Copy)]
+#[derive(Clone, Copy, Debug, PartialEq, Eq)]
 pub struct Entry {
     pub source: u32,
     pub destination: u32,

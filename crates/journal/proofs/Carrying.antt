@@ -112,10 +112,10 @@ module _ (rule size : ℕ) (l t a r : List ℕ) (n : ℕ) (en : n ≡ count_call
   unfolding carry_number
   number_parts = rw en
 
-  pub carry_refused : (why : Refusal) → number_of why ≡ first (open_checks rule size ++ (18 if ages_off n l) ∷ []) → (z : Reply) → z ≡ not_opened (number_of why) → CarriesOut rule size l t a r z t a r
-  carry_refused why e z ez =
+  pub carry_refused : (why : Refusal) → number_of why ≡ first (open_checks rule size ++ (18 if ages_off n l) ∷ []) → (m : ℕ) → m ≡ number_of why → (z : Reply) → z ≡ not_opened m → CarriesOut rule size l t a r z t a r
+  carry_refused why e m em z ez =
       let k : carry_number rule size l a ≡ number_of why = number_parts ∙ sym e in
-      record { refused = λ u. (rw k ez, refl, refl, refl); done = λ u. absurd (some_number why (sym k ∙ u)); demand = λ u. absurd (some_number why (sym k ∙ u)) }
+      record { refused = λ u. (rw k (rw em at ez), refl, refl, refl); done = λ u. absurd (some_number why (sym k ∙ u)); demand = λ u. absurd (some_number why (sym k ∙ u)) }
 
   module _ (e : 0 ≡ first (open_checks rule size ++ (18 if ages_off n l) ∷ [])) where
     opens_well : first (open_checks rule size) ≡ 0

@@ -148,6 +148,6 @@ pub fn carry_out(
             let head = call_all(fresh, n, table, calls, answers, room);
             Reply { number: 0, head }
         }
-        Err(why) => opening::refused(why),
+        Err(why) => opening::refused(u32::from(why)),
     }
 }

@@ -1,7 +1,7 @@
 // Opening a book.
 ghost use Rattle.std.specs.Prelude.{◌≡◌};
 ghost use Rattle.refusal.specs.Numbers.{first};
-ghost use Rattle.refusal.specs.Refusals.{number_of, outcome_number};
+ghost use Rattle.refusal.specs.Refusals.{outcome_number};
 ghost use Rattle.book.specs.Head.{empty_head, not_opened, open_checks, opening};
 
 use book::{BALANCES, Head, Reply};
@@ -29,11 +29,11 @@ pub fn empty_head(rule: u32, vessels: u32) -> Head
 }
 
 // A refusal: a head of zeros.
-pub fn refused(why: Refusal) -> Reply
-    ensures { result ≡ not_opened (number_of why) }
+pub fn refused(number: u32) -> Reply
+    ensures { result ≡ not_opened number }
 {
     Reply {
-        number: u32::from(why),
+        number,
         head: empty_head(0, 0),
     }
 }
@@ -60,6 +60,6 @@ pub fn open(rule: u32, vessels: u32) -> Reply
             number: 0,
             head: empty_head(rule, vessels),
         },
-        Err(why) => refused(why),
+        Err(why) => refused(u32::from(why)),
     }
 }

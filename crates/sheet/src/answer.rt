@@ -1,7 +1,7 @@
 // What reading a sheet yields.
 
 // The numbers of a header.
-#[derive(Clone, Copy)]
+#[derive(Clone, Copy, Debug, PartialEq, Eq)]
 pub struct Header {
     pub rule: u32,
     pub vessels: u32,
@@ -10,7 +10,7 @@ pub struct Header {
 
 // What reading a sheet yields in C, where a number tells a refusal: `Result` has no layout there.
 #[repr(C)]
-#[derive(Clone, Copy)]
+#[derive(Clone, Copy, Debug, PartialEq, Eq)]
 pub struct Reading {
     pub number: u32,
     pub rule: u32,
@@ -20,7 +20,7 @@ pub struct Reading {
 
 // What asking for a movement yields in C, likewise.
 #[repr(C)]
-#[derive(Clone, Copy)]
+#[derive(Clone, Copy, Debug, PartialEq, Eq)]
 pub struct Movement {
     pub number: u32,
     pub source: u32,

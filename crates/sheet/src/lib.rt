@@ -2,7 +2,7 @@
 // Any bytes of any length may come in; a refusal has its number, and all else is 0 or empty.
 #![tactic(auto)]
 
-ghost use Rattle.std.specs.Prelude.{◌≡◌, ◌<◌, ◌≤◌, length};
+ghost use Rattle.std.specs.Prelude.{IfOk, ◌≡◌, ◌<◌, ◌≤◌, length};
 ghost use Rattle.refusal.specs.Refusals.{outcome_number};
 ghost use Rattle.sheet.specs.Sheet.{movements_of, read_number};
 ghost use Rattle.sheet.specs.Answers.{reading, movement_at, movement_asked, movement_of, name_number, NamePart};
@@ -56,7 +56,8 @@ pub fn movement_known(sheet: &[u8], index: u32) -> Movement
 
 // The movement at an index, or why there is none.
 fn find_movement(sheet: &[u8], index: u32) -> Result<Movement, Refusal>
-    ensures { movement_of result ≡ movement_asked sheet.now index }
+    ensures answer { movement_of result ≡ movement_asked sheet.now index }
+    ensures accepted { IfOk result (λ m. m.number ≡ 0) }
 {
     let header = read_header(sheet)?;
     if index >= header.movements {

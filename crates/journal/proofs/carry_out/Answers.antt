@@ -4,7 +4,7 @@ use Rattle.std.proofs.Common.{arith}
 use Rattle.journal.proofs.carry_out.Goals as goal
 
 pub returns-in-Err : goal.returns-in-Err
-returns-in-Err c = carry_refused c.args.rule c.args.vessels _ _ _ _ _ c.min-n.ensures _ c.in-Err.ensures _ c.refused.ensures
+returns-in-Err c = carry_refused c.args.rule c.args.vessels _ _ _ _ _ c.min-n.ensures _ c.in-Err.ensures _ c.from.ensures _ c.refused.ensures
 
 pub returns-in-Ok : goal.returns-in-Ok
 returns-in-Ok c = carry_done c.args.rule c.args.vessels _ _ _ _ _ c.min-n.ensures c.in-Ok.ensures _ _ c.empty_head-fresh.ensures _ _ _ c.call_all-head.ensures
