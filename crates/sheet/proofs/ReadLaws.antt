@@ -1,6 +1,10 @@
 -- Laws of a sheet read whole: what a good header lays down, the number at each way out, and what an answer of number 0 is.
 -- Assumes nothing.
-use Rattle.std.proofs.Common.{ℕ, ◌-◌, ◌≤◌, arith, ◌≡◌, refl, sym, ◌∙◌, Bool, false, not, List, [], ◌∷◌, ◌++◌, eqb, length, take, drop}
+use Rattle.std.specs.Prelude.{Result, Ok, Err, MatchResult}
+use Rattle.std.specs.Result.{IsErrAnd}
+use Rattle.refusal.specs.declared.Refusal.{Refusal}
+use Rattle.refusal.specs.Refusals.{number_of}
+use Rattle.std.proofs.Common.{ℕ, ◌-◌, ◌≤◌, arith, ◌≡◌, refl, sym, ap, ◌∙◌, Bool, false, not, List, [], ◌∷◌, ◌++◌, eqb, length, take, drop}
 use Rattle.refusal.specs.Numbers.{Check, ◌if◌, first}
 use Rattle.refusal.proofs.Numbers.{passed, neither, same_if, past, refuses, passes, passed_first, passed_second}
 use Rattle.fields.specs.Bytes.{value_in}
@@ -68,7 +72,12 @@ module _ (s : List ℕ) (vessels movements : ℕ) (off : Bool) (e : off ≡ name
       → n ≡ first (body_checks vessels movements s)
   out_entries n q en = rw (← names_say, q) (rw take_rest at en)
 
--- the ways out of `read_header`, by the numbers
+-- the ways out of `Sheet::read`: the refusal of the header or of what lies behind it is the sheet's own
+pub not_read : {T : Type 0} (P : T → Type 0) (r : Result T Refusal) (why : Refusal) (n : ℕ) → IsErrAnd r (λ (other : Refusal). other ≡ why) → number_of why ≡ n
+    → MatchResult r P (λ (other : Refusal). number_of other ≡ n)
+not_read P (Ok x) why n is e = absurd is
+not_read P (Err other) why n is e = ap number_of is ∙ e
+
 module _ (s : List ℕ) (n : ℕ) (e : n ≡ first (header_checks s)) where
   pub out_header : (n ≡ 0 → ⊥) → n ≡ read_number s
   unfolding read_number

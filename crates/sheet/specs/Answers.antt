@@ -22,11 +22,6 @@ refused_reading n = record { number = n; rule = 0; vessels = 0; movements = 0 }
 abbrev pub header_numbers : List ℕ → Header
 header_numbers s = record { rule = rule_of s; vessels = vessels_of s; movements = movements_of s }
 
--- What C is told of a header that was read, or of the refusal.
-abbrev pub reading_of : Result Header Refusal → Reading
-reading_of (Ok h) = record { number = 0; rule = h.rule; vessels = h.vessels; movements = h.movements }
-reading_of (Err why) = refused_reading (number_of why)
-
 -- "Reading a sheet yields rule, V and M".
 abbrev pub reading : List ℕ → Reading
 reading s = if_zero (read_number s) (header_of s) (refused_reading (read_number s))

@@ -1,11 +1,11 @@
 -- "The sheet": its header, its names and movements, and the checks in their order. Definitions only. Assumes nothing.
-use Rattle.std.specs.Prelude.{Bool, not, ◌||◌, List, [], ◌∷◌, ◌++◌, ℕ, eqb, ltb, length, take, drop}
+use Rattle.std.specs.Prelude.{Bool, not, ◌||◌, List, [], ◌∷◌, ◌++◌, ℕ, ◌*◌, eqb, ltb, length, take, drop}
 use Rattle.refusal.specs.Numbers.{Check, ◌if◌, first}
 use Rattle.book.specs.Head.{same, open_checks}
 use Rattle.fields.specs.declared.entries.Entry.{Entry}
 use Rattle.fields.specs.Bytes.{value_in}
 use Rattle.fields.specs.Movements.{entries_in, entry_checks, entries_checks}
-use Rattle.fields.specs.Layout.{mark, mark_size, header_size, rule_at, vessels_at, movements_at, names_at, entries_at, length_at, entries_start, sheet_size, movements_off}
+use Rattle.fields.specs.Layout.{mark, mark_size, name_size, header_size, rule_at, vessels_at, movements_at, names_at, entries_at, length_at, entries_start, sheet_size, movements_off}
 use Rattle.names.specs.Names.{names_in, names_off}
 
 -- "4: rule (2 bytes). 6: V (2). 8: movement count M (4)."
@@ -42,6 +42,10 @@ abbrev pub body_checks : ℕ → ℕ → List ℕ → List Check
 body_checks vessels movements s =
     (17 if names_off (names_in vessels (drop header_size s)))
     ∷ entries_checks (entry_checks vessels) (entries_in movements (drop (entries_start vessels) s))
+
+-- The bytes of all names.
+abbrev pub names_of : List ℕ → List ℕ
+names_of s = take (name_size * vessels_of s) (drop header_size s)
 
 -- The names and the movements of a sheet.
 abbrev pub names_read : List ℕ → List (List ℕ)

@@ -2,32 +2,33 @@
 // Any bytes of any length may come in; a refusal has its number, and all else is 0 or empty.
 #![tactic(auto)]
 
-ghost use Rattle.std.specs.Prelude.{IfOk, ◌≡◌, ◌<◌, ◌≤◌, length};
+ghost use Rattle.std.specs.Prelude.{IfOk, ◌≡◌};
 ghost use Rattle.refusal.specs.Refusals.{outcome_number};
-ghost use Rattle.sheet.specs.Sheet.{movements_of, read_number};
-ghost use Rattle.sheet.specs.Answers.{reading, movement_at, movement_asked, movement_of, name_number, NamePart};
+ghost use Rattle.sheet.specs.Answers.{reading, movement_asked, movement_of, name_number, NamePart};
 
 use answer::{Movement, Reading};
-use fields::bytes::read16;
-use fields::layout::{NAME_SIZE, VESSELS_AT, name_start, sheet_size};
-pub use reader::read_header;
+use fields::layout::{NAME_SIZE, name_start};
+pub use reader::Sheet;
 use refusal::Refusal;
 
 pub mod answer; // answer.rt: what reading a sheet and asking for a movement yield
 mod header; // header.rt: the header, and what it must be
-mod reader; // reader.rt: all checks of a sheet, in order
+mod reader; // reader.rt: all checks of a sheet, in order, and a sheet that passed them as a value
 
 // Reads a sheet: its rule, count of vessels and count of movements.
 pub fn read(sheet: &[u8]) -> Reading
     ensures { result ≡ reading sheet.now }
 {
-    match read_header(sheet) {
-        Ok(header) => Reading {
-            number: 0,
-            rule: header.rule,
-            vessels: header.vessels,
-            movements: header.movements,
-        },
+    match Sheet::read(sheet) {
+        Ok(known) => {
+            let header = known.header();
+            Reading {
+                number: 0,
+                rule: header.rule,
+                vessels: header.vessels,
+                movements: header.movements,
+            }
+        }
         Err(why) => Reading {
             number: u32::from(why),
             rule: 0,
@@ -37,33 +38,17 @@ pub fn read(sheet: &[u8]) -> Reading
     }
 }
 
-// The movement at an index of a sheet that is known to read well: the sheet is not read again.
-pub fn movement_known(sheet: &[u8], index: u32) -> Movement
-    requires { (read_number sheet.now ≡ 0) × (index < movements_of sheet.now) }
-    ensures { result ≡ movement_at sheet.now index }
-{
-    let at = sheet_size(read16(sheet, VESSELS_AT), index);
-    let e = fields::entries::read_entry(sheet, at);
-    Movement {
-        number: 0,
-        source: e.source,
-        destination: e.destination,
-        minute: e.minute,
-        weight: e.weight,
-        age: e.age as u16,
-    }
-}
-
 // The movement at an index, or why there is none.
+#[tactic(auto, unfolding(crate::specs::Answers::asked_number))]
 fn find_movement(sheet: &[u8], index: u32) -> Result<Movement, Refusal>
     ensures answer { movement_of result ≡ movement_asked sheet.now index }
     ensures accepted { IfOk result (λ m. m.number ≡ 0) }
 {
-    let header = read_header(sheet)?;
-    if index >= header.movements {
+    let known = Sheet::read(sheet)?;
+    if index >= known.header().movements {
         return Err(Refusal::PastEnd);
     }
-    Ok(movement_known(sheet, index))
+    Ok(known.movement(index))
 }
 
 // The movement at an index.
@@ -84,11 +69,12 @@ pub fn movement(sheet: &[u8], index: u32) -> Movement
 }
 
 // The first check that asking for a vessel's name fails.
+#[tactic(auto, unfolding(crate::specs::Answers::asked_number))]
 fn check_vessel(sheet: &[u8], vessel: u32) -> Result<(), Refusal>
     ensures { outcome_number result ≡ name_number sheet.now vessel }
 {
-    let header = read_header(sheet)?;
-    if vessel >= header.vessels {
+    let known = Sheet::read(sheet)?;
+    if vessel >= known.header().vessels {
         return Err(Refusal::NoVessel);
     }
     Ok(())

@@ -1,15 +1,16 @@
-// All checks of a sheet, in order.
-ghost use Rattle.std.specs.Prelude.{◌≡◌, length};
+// All checks of a sheet, in order; and a sheet that passed them, as a value.
+ghost use Rattle.std.specs.Prelude.{◌≡◌, ◌<◌, length, MatchResult};
 ghost use Rattle.refusal.specs.Numbers.{first};
-ghost use Rattle.refusal.specs.Refusals.{outcome_number};
+ghost use Rattle.refusal.specs.Refusals.{number_of, outcome_number};
 ghost use Rattle.fields.specs.Layout.{sheet_size, Within};
-ghost use Rattle.sheet.specs.Sheet.{body_checks};
-ghost use Rattle.sheet.specs.Answers.{reading, reading_of};
+ghost use Rattle.sheet.specs.Sheet.{body_checks, movements_of, names_of, read_number};
+ghost use Rattle.sheet.specs.Answers.{header_numbers, movement_at};
 
-use crate::answer::Header;
+use crate::answer::{Header, Movement};
 use crate::header::{check_header, header_numbers};
-use fields::layout::{HEADER_SIZE, name_start};
+use fields::layout::{HEADER_SIZE, name_start, sheet_size};
 use refusal::Refusal;
+use std::marker::Model;
 
 // The first check that what lies behind the header fails.
 #[tactic(auto, using(crate::proofs::ReadLaws::out_entries))]
@@ -24,12 +25,67 @@ fn check_body(sheet: &[u8], vessels: u32, movements: u32) -> Result<(), Refusal>
     fields::entries::check_entries(&sheet[start..], movements as usize, vessels)
 }
 
-// The numbers of a sheet's header, or the first check that the sheet fails.
-pub fn read_header(sheet: &[u8]) -> Result<Header, Refusal>
-    ensures { reading_of result ≡ reading sheet.now }
-{
-    check_header(sheet)?;
-    let header = header_numbers(sheet);
-    check_body(sheet, header.vessels, header.movements)?;
-    Ok(header)
+// A sheet that reads well: its bytes, which contracts see, and the numbers of their header. A type with a view and a lifetime cannot be
+// `Copy`, so functions take it by reference.
+#[derive(Drop)]
+pub struct Sheet<'a> {
+    bytes: &'a [u8],
+    numbers: Header,
+}
+
+impl<'a> Model for Sheet<'a> {
+    ghost use Rattle.std.specs.Prelude.{ℕ, List, ◌≡◌};
+    ghost use Rattle.sheet.specs.Sheet.{read_number};
+    ghost use Rattle.sheet.specs.Answers.{header_numbers};
+
+    ghost Value = { List ℕ };
+
+    ghost view = { λ sheet. sheet.bytes.now };
+
+    ghost invariant = { λ sheet. (read_number sheet.bytes.now ≡ 0) × (sheet.numbers ≡ header_numbers sheet.bytes.now) };
+}
+
+impl<'a> Sheet<'a> {
+    // The bytes as a sheet, or the first check that they fail.
+    pub fn read(bytes: &'a [u8]) -> Result<Self, Refusal>
+        ensures { MatchResult result (λ sheet. (sheet ≡ bytes.now) × (read_number bytes.now ≡ 0)) (λ why. number_of why ≡ read_number bytes.now) }
+    {
+        check_header(bytes)?;
+        let numbers = header_numbers(bytes);
+        check_body(bytes, numbers.vessels, numbers.movements)?;
+        Ok(Sheet { bytes, numbers })
+    }
+
+    // The rule, the count of vessels and the count of movements.
+    pub fn header(&self) -> Header
+        ensures { result ≡ header_numbers self.now }
+    {
+        self.numbers
+    }
+
+    // The bytes of all names.
+    #[tactic(auto, using(crate::proofs::AnswerLaws::names_end))]
+    pub fn names(&self) -> &'a [u8]
+        ensures { result.now ≡ names_of self.now }
+    {
+        &self.bytes[HEADER_SIZE..name_start(self.numbers.vessels)]
+    }
+
+    // The movement at an index.
+    #[tactic(auto, using(crate::proofs::AnswerLaws::entry_end))]
+    pub fn movement(&self, index: u32) -> Movement
+        requires { index < movements_of self.now }
+        ensures { result ≡ movement_at self.now index }
+    {
+        let at = sheet_size(self.numbers.vessels, index);
+        let e = fields::entries::read_entry(self.bytes, at);
+        Movement {
+            number: 0,
+            source: e.source,
+            destination: e.destination,
+            minute: e.minute,
+            weight: e.weight,
+            age: e.age as u16,
+        }
+    }
 }
