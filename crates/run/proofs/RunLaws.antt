@@ -17,23 +17,18 @@ use Rattle.carrying.specs.Carrying.{Audited}
 use Rattle.carrying.specs.declared.Carried.{Carried}
 use Rattle.posting.specs.Posting.{Posts, refused_with, transferred}
 use Rattle.book.proofs.After.{known_after, length_after, fresh_known}
-use Rattle.sheet.specs.declared.answer.Movement.{Movement}
-use Rattle.sheet.specs.declared.answer.Reading.{Reading}
 use Rattle.run.specs.declared.Ran.{Ran}
-use Rattle.sheet.specs.Answers.{header_of, header_numbers, refused_reading, reading, reading_of, movement_at}
+use Rattle.sheet.specs.Answers.{header_numbers}
 use Rattle.fields.specs.Movements.{entry_size}
 use Rattle.fields.specs.Layout.{entries_start}
 use Rattle.sheet.specs.Sheet.{rule_of, vessels_of, movements_of, read_number}
 use Rattle.std.specs.Prelude.{Result, Ok, Err}
-use Rattle.std.specs.Result.{IsErrAnd}
 use Rattle.refusal.specs.declared.Refusal.{Refusal}
-use Rattle.refusal.specs.declared.Refusal.TheVariants.{TableShort}
 use Rattle.refusal.specs.Refusals.{number_of}
 use Rattle.refusal.proofs.Refusals.{some_number}
 use Rattle.sheet.specs.declared.answer.Header.{Header}
-use Rattle.run.specs.Run.{not_run, Checked, transfer_in, transfer_at, transfers_of, Running, Gives, ended, go_on, run_from, run_number, running, Runnable}
+use Rattle.run.specs.Run.{not_run, transfer_in, transfer_at, transfers_of, Running, Gives, ended, go_on, run_from, run_number, running}
 use Rattle.sheet.proofs.ReadLaws.{good}
-use Rattle.sheet.proofs.AnswerLaws.{number_read, read_zero, header}
 use Rattle.fields.proofs.GroupLaws.{length_groups, group_at, next_group}
 
 -- the transfer at index i, and those behind it
@@ -56,25 +51,25 @@ even_said h t x e = go (Memory.number_of h t (post x)) e
     go (suc n) e = absurd (omega arith)
 
 -- Where a run stands before movement i: so many were even, the book is known, and going on ends as it should.
-pub record Going (s : List ℕ) (m : ℕ) (h₀ : Head) (t₀ : List ℕ) (h : Head) (t : List ℕ) (even i : ℕ) : Type 0 where
+pub record Going (s : List ℕ) (h₀ : Head) (t₀ : List ℕ) (h : Head) (t : List ℕ) (even i : ℕ) : Type 0 where
   pub some_even : even ≤ i
   pub audited : Audited h t
   pub left : run_from i even h t (drop i (transfers_of s)) ≡ run_from 0 0 h₀ t₀ (transfers_of s)
   pub table_length : length t ≡ length t₀
 
-module _ (s : List ℕ) (m : ℕ) (h₀ : Head) (t₀ : List ℕ) (h : Head) (t : List ℕ) (even i : ℕ) (g : Going s m h₀ t₀ h t even i)
-    (able : Runnable s m h₀ t₀) where
+module _ (s : List ℕ) (h₀ : Head) (t₀ : List ℕ) (h : Head) (t : List ℕ) (even i : ℕ) (g : Going s h₀ t₀ h t even i)
+    (header : Header) (told : header ≡ header_numbers s) where
   abbrev all : Running
   all = run_from 0 0 h₀ t₀ (transfers_of s)
 
   abbrev o : Outcome
   o = call_on h t (post (transfer_at s i))
 
-  here : i < m → go_on (λ even' h' t'. run_from (suc i) even' h' t' (drop (i + 1) (transfers_of s))) i even h t (transfer_at s i) o o.number ≡ run_from 0 0 h₀ t₀ (transfers_of s)
+  here : i < header.movements → go_on (λ even' h' t'. run_from (suc i) even' h' t' (drop (i + 1) (transfers_of s))) i even h t (transfer_at s i) o o.number ≡ run_from 0 0 h₀ t₀ (transfers_of s)
   unfolding run_from
-  here q = rw (next_transfer s i (rw able.count at q)) at g.left
+  here q = rw (next_transfer s i (rw told at q)) at g.left
 
-  module _ (made : Transferred) (t' : List ℕ) (q : i < m) (posts : Posts h (post (transfer_at s i)) t t' made) where
+  module _ (made : Transferred) (t' : List ℕ) (q : i < header.movements) (posts : Posts h (post (transfer_at s i)) t t' made) where
     same_number : made.number ≡ o.number
     same_number = ap (λ (z : Transferred). z.number) posts.answer
 
@@ -89,7 +84,7 @@ module _ (s : List ℕ) (m : ℕ) (h₀ : Head) (t₀ : List ℕ) (h : Head) (t 
 
     -- it is accepted, and the run goes on
     module _ (z : made.number ≡ 0) (one : ℕ) (eo : (one ≡ if_zero (made.split + made.born) 1 0) × (one ≤ 1)) where
-      going_next : Going s m h₀ t₀ made.head t' (even + one) (i + 1)
+      going_next : Going s h₀ t₀ made.head t' (even + one) (i + 1)
       going_next =
           let known = known_up h t g.audited.sized g.audited.book_adds_up in
           let u = known_after h t known (transfer_at s i) in
@@ -108,19 +103,20 @@ module _ (s : List ℕ) (m : ℕ) (h₀ : Head) (t₀ : List ℕ) (h : Head) (t 
           }
 
   -- the two arms of a movement
-  module _ (t' : List ℕ) (q : i < m) (r : Result Carried Refusal) (posts : Posts h (post (transfer_at s i)) t t' (transferred h r)) where
+  module _ (t' : List ℕ) (q : i < header.movements) (r : Result Carried Refusal) (posts : Posts h (post (transfer_at s i)) t t' (transferred h r)) where
     pub going_refused : (why : Refusal) → r ≡ Err why → (n : ℕ) → n ≡ number_of why → Gives all t' (record { number = n; index = i; even = even; head = h })
     going_refused why e n en = rw en (going_stop (refused_with h (number_of why)) t' q (rw e at posts) (some_number why))
 
-    pub going_on : (c : Carried) → r ≡ Ok c → (one : ℕ) → (one ≡ if_zero (c.split + c.born) 1 0) × (one ≤ 1) → Going s m h₀ t₀ c.head t' (even + one) (i + 1)
+    pub going_on : (c : Carried) → r ≡ Ok c → (one : ℕ) → (one ≡ if_zero (c.split + c.born) 1 0) × (one ≤ 1) → Going s h₀ t₀ c.head t' (even + one) (i + 1)
     going_on c e one eo = going_next (transferred h (Ok c)) t' q (rw e at posts) refl one eo
 
   -- all are made
-  pub going_end : m ≤ i → Gives all t (record { number = 0; index = i; even = even; head = h })
+  pub going_end : i ≡ header.movements → Gives all t (record { number = 0; index = header.movements; even = even; head = h })
   unfolding run_from
   going_end q =
-      let f : ended 0 i even h t ≡ all = rw (drop_of_length-le (transfers_of s) {i = i} (rw (length_groups, ← able.count) q)) at g.left in
-      record { answer_is = ap (λ (r : Running). r.answer) f; table_is = ap (λ (r : Running). r.table) f }
+      let e : i ≡ movements_of s = q ∙ rw told in
+      let f : ended 0 i even h t ≡ all = rw (drop_of_length-le (transfers_of s) {i = i} (rw length_groups (omega (arith, e)))) at g.left in
+      rw (← q) (record { answer_is = ap (λ (r : Running). r.answer) f; table_is = ap (λ (r : Running). r.table) f })
 
 -- an opening that is not refused gives the fresh head
 pub fresh_opened : (rule size : ℕ) → first (open_checks rule size) ≡ 0 → (opening rule size).head ≡ empty_head rule size
@@ -137,23 +133,17 @@ opened_well s e = rw (opens_well s e)
 
 -- the ways out of `check`
 module _ (s t : List ℕ) where
-  pub unread : (r : Result Header Refusal) (why : Refusal) → IsErrAnd r (λ (other : Refusal). other ≡ why) → refused_reading (number_of why) ≡ reading s → Checked s t r
+  pub unread : (why : Refusal) → number_of why ≡ read_number s → number_of why ≡ run_number s t
   unfolding run_number
-  unread (Ok h) why is e = absurd is
-  unread (Err other) why is e =
-      let n : number_of other ≡ read_number s = ap number_of is ∙ number_read s (refused_reading (number_of why)) e in
-      rw (← n) (not_zero (number_of other) _ (number_of other) (some_number other))
+  unread why e = rw (← e) (not_zero (number_of why) (first (1 if ltb (length t) 4 ∷ [])) (number_of why) (some_number why))
 
-  module _ (h : Header) (e : reading_of (Ok h) ≡ reading s) where
-    pub no_place : length t < 4 → Checked s t (Err TableShort)
-    unfolding run_number
-    no_place short = rw (read_zero s (reading_of (Ok h)) e refl, lt-ltb (length t) 4 short)
+  pub no_place : read_number s ≡ 0 → length t < 4 → 1 ≡ run_number s t
+  unfolding run_number
+  no_place z short = rw (z, lt-ltb (length t) 4 short)
 
-    pub can_begin : 4 ≤ length t → Checked s t (Ok h)
-    unfolding run_number
-    can_begin long =
-        let same = ap (λ (r : Reading). record { rule = r.rule; vessels = r.vessels; movements = r.movements }) (header s (reading_of (Ok h)) e refl) in
-        (rw (read_zero s (reading_of (Ok h)) e refl, le-ltb (length t) 4 long), same)
+  pub can_begin : read_number s ≡ 0 → 4 ≤ length t → run_number s t ≡ 0
+  unfolding run_number
+  can_begin z long = rw (z, le-ltb (length t) 4 long)
 
 -- the ways out of `run`
 module _ (s t : List ℕ) where
@@ -165,32 +155,27 @@ module _ (s t : List ℕ) where
       go zero nz = absurd (nz refl)
       go (suc n) nz = record { answer_is = refl; table_is = refl }
 
-  module _ (h : Header) (e : (run_number s t ≡ 0) × (h ≡ header_numbers s)) (fresh : Head) (ef : fresh ≡ empty_head h.rule h.vessels) where
+  module _ (known : List ℕ) (e : (known ≡ s) × (run_number s t ≡ 0)) (header : Header) (told : header ≡ header_numbers known) (fresh : Head) (ef : fresh ≡ empty_head header.rule header.vessels) where
     reads : read_number s ≡ 0
     unfolding run_number
-    reads = first_zero (read_number s) _ e.0
+    reads = first_zero (read_number s) _ e.1
 
     long : 4 ≤ length t
     unfolding run_number
-    long = go (ltb (length t) 4) refl (rw reads at e.0)
+    long = go (ltb (length t) 4) refl (rw reads at e.1)
       where
         go : (b : Bool) → ltb (length t) 4 ≡ b → first (1 if b ∷ []) ≡ 0 → 4 ≤ length t
         go true q z = absurd (omega (arith, z))
         go false q z = ltb-false (length t) 4 q
 
     is_fresh : fresh ≡ empty_head (rule_of s) (vessels_of s)
-    is_fresh = ef ∙ rw e.1
+    is_fresh = ef ∙ rw (told, e.0)
 
-    pub run_ready : Runnable s h.movements fresh t
+    pub run_ready : Audited fresh t
     run_ready =
         let k = fresh_known (rule_of s) (vessels_of s) t (opens_well s reads) in
-        record {
-          reads = reads;
-          count = rw e.1;
-          few = rw e.1 (good s 0 (sym reads) refl).movements;
-          audited = rw is_fresh (record { long = long; book_adds_up = k.adds; sized = k.sized });
-        }
+        rw is_fresh (record { long = long; book_adds_up = k.adds; sized = k.sized })
 
-    pub run_whole : (z : Ran) (t' : List ℕ) → Gives (run_from 0 0 fresh t (transfers_of s)) t' z → Gives (running s t) t' z
+    pub run_whole : (z : Ran) (t' : List ℕ) → Gives (run_from 0 0 fresh t (transfers_of known)) t' z → Gives (running s t) t' z
     unfolding running
-    run_whole z t' p = rw (e.0, fresh_opened (rule_of s) (vessels_of s) (opens_well s reads)) (rw is_fresh at p)
+    run_whole z t' p = rw (e.1, fresh_opened (rule_of s) (vessels_of s) (opens_well s reads)) (rw (is_fresh, e.0) at p)

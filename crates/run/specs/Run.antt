@@ -1,7 +1,7 @@
 -- A run: "A run reads the sheet, checks 1, opens a book and transfers until one is refused; its answer has that number, the movement's
 -- index from 0 (M if all passed), and the even count. It stops with the head and table after the last accepted one."
 -- Definitions only. Assumes nothing.
-use Rattle.std.specs.Prelude.{◌≡◌, List, [], ◌∷◌, ℕ, zero, suc, ◌+◌, ◌*◌, ◌≤◌, ltb, length, drop, Result, MatchResult}
+use Rattle.std.specs.Prelude.{◌≡◌, List, [], ◌∷◌, ℕ, zero, suc, ◌+◌, ◌*◌, ltb, length, drop, Result, MatchResult}
 use Rattle.refusal.specs.Numbers.{◌if◌, first, if_zero}
 use Rattle.book.specs.declared.Head.{Head}
 use Rattle.book.specs.declared.Transfer.{Transfer}
@@ -9,15 +9,12 @@ use Rattle.book.specs.Head.{empty_head, opening}
 use Rattle.book.specs.Transfer.{transfer_of}
 use Rattle.book.specs.Calls.{post}
 use Rattle.book.specs.Memory.{Outcome, call_on}
-use Rattle.carrying.specs.Carrying.{Audited}
 use Rattle.refusal.specs.declared.Refusal.{Refusal}
 use Rattle.refusal.specs.Refusals.{number_of}
-use Rattle.sheet.specs.declared.answer.Header.{Header}
-use Rattle.sheet.specs.Answers.{header_numbers}
 use Rattle.run.specs.declared.Ran.{Ran}
 use Rattle.fields.specs.Bytes.{groups}
 use Rattle.fields.specs.Movements.{entry_size, entry_in}
-use Rattle.fields.specs.Layout.{entries_start, most_movements}
+use Rattle.fields.specs.Layout.{entries_start}
 use Rattle.sheet.specs.Sheet.{rule_of, vessels_of, movements_of, read_number}
 
 -- the transfer that the movement in the first bytes is
@@ -67,13 +64,6 @@ unfoldable pub running : List ℕ → List ℕ → Running
 running s t =
     if_zero (run_number s t) (run_from 0 0 (opening (rule_of s) (vessels_of s)).head t (transfers_of s)) (ended (run_number s t) 0 0 (empty_head 0 0) t)
 
--- What its checks find: the numbers of the sheet's header, or the refusal.
-abbrev pub Checked : List ℕ → List ℕ → Result Header Refusal → Type 0
-Checked s t r = MatchResult r (λ h. (run_number s t ≡ 0) × (h ≡ header_numbers s)) (λ why. number_of why ≡ run_number s t)
-
--- What making all movements asks: the sheet reads well and has so many, and the book is known to add up.
-pub record Runnable (s : List ℕ) (m : ℕ) (h : Head) (t : List ℕ) : Type 0 where
-  pub reads : read_number s ≡ 0
-  pub count : m ≡ movements_of s
-  pub few : m ≤ most_movements
-  pub audited : Audited h t
+-- What its checks find: the sheet, or the refusal.
+abbrev pub Checked : List ℕ → List ℕ → Result (List ℕ) Refusal → Type 0
+Checked s t r = MatchResult r (λ sheet. (sheet ≡ s) × (run_number s t ≡ 0)) (λ why. number_of why ≡ run_number s t)

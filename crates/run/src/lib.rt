@@ -7,14 +7,14 @@ ghost use Rattle.refusal.specs.Refusals.{number_of};
 ghost use Rattle.book.specs.Calls.{post};
 ghost use Rattle.carrying.specs.Carrying.{Audited};
 ghost use Rattle.posting.specs.Posting.{transferred, Posts};
-ghost use Rattle.sheet.specs.Sheet.{movements_of, read_number};
-ghost use Rattle.run.specs.Run.{transfer_at, transfers_of, not_run, Gives, run_from, running, Runnable, Checked};
+ghost use Rattle.sheet.specs.Sheet.{movements_of};
+ghost use Rattle.run.specs.Run.{transfer_at, transfers_of, not_run, Gives, run_from, running, Checked};
 
 use book::{Head, Transfer};
 use carrying::Carried;
 use moving::Workspace;
 use refusal::Refusal;
-use sheet::answer::Header;
+use sheet::Sheet;
 
 // What a run yields: the number of the movement that stopped it or 0, that movement's index or the count of all, the even count, and
 // the head after the last accepted movement. C gets it by value, so that a number tells a refusal.
@@ -48,16 +48,16 @@ fn count_even(made: Carried) -> u32
 
 // Movement i is made.
 fn make(
-    sheet: &[u8],
+    sheet: &Sheet,
     i: u32,
     head: Head,
     table: &mut [u32],
     work: &mut Workspace,
 ) -> Result<Carried, Refusal>
-    requires { (read_number sheet.now ≡ 0) × (i < movements_of sheet.now) × Audited head table.old }
+    requires { (i < movements_of sheet.now) × Audited head table.old }
     ensures { Posts head (post (transfer_at sheet.now i)) table.old table.new (transferred head result) }
 {
-    let m = sheet::movement_known(sheet, i);
+    let m = sheet.movement(i);
     let x = Transfer {
         source: m.source,
         destination: m.destination,
@@ -69,10 +69,11 @@ fn make(
 }
 
 // All movements are made in turn, until one is refused.
-fn make_all(sheet: &[u8], movements: u32, fresh: Head, table: &mut [u32]) -> Ran
-    requires { Runnable sheet.now movements fresh table.old }
+fn make_all(sheet: &Sheet, fresh: Head, table: &mut [u32]) -> Ran
+    requires { Audited fresh table.old }
     ensures { Gives (run_from 0 0 fresh table.old (transfers_of sheet.now)) table.new result }
 {
+    let movements = sheet.header().movements;
     let mut work = Workspace::new();
     let mut head = fresh;
     let mut even = 0;
@@ -100,15 +101,15 @@ fn make_all(sheet: &[u8], movements: u32, fresh: Head, table: &mut [u32]) -> Ran
     }
 }
 
-// The header of a sheet, and a table with a place at least.
-fn check(sheet: &[u8], table: &[u32]) -> Result<Header, Refusal>
+// The sheet, and a table with a place at least.
+fn check<'a>(sheet: &'a [u8], table: &[u32]) -> Result<Sheet<'a>, Refusal>
     ensures { Checked sheet.now table.now result }
 {
-    let header = sheet::read_header(sheet)?;
+    let known = Sheet::read(sheet)?;
     if table.len() < 4 {
         return Err(Refusal::TableShort);
     }
-    Ok(header)
+    Ok(known)
 }
 
 // Reads a sheet and makes its movements on a fresh book in the table.
@@ -116,9 +117,10 @@ pub fn run(sheet: &[u8], table: &mut [u32]) -> Ran
     ensures { Gives (running sheet.now table.old) table.new result }
 {
     match check(sheet, table) {
-        Ok(header) => {
+        Ok(known) => {
+            let header = known.header();
             let fresh = ledger::opening::empty_head(header.rule, header.vessels);
-            make_all(sheet, header.movements, fresh, table)
+            make_all(&known, fresh, table)
         }
         Err(why) => refused(why),
     }

@@ -3,4 +3,4 @@ use Rattle.run.proofs.RunLaws.{Going}
 use Rattle.run.proofs.make_all.Given as goal
 
 abbrev pub invariant-loop-i : goal.invariant-loop-i
-invariant-loop-i l = Going l.sheet l.movements l.initial.head l.initial.table l.head l.table l.even l.i
+invariant-loop-i l = Going l.sheet l.initial.head l.initial.table l.head l.table l.even l.i
