@@ -13,10 +13,10 @@ use Rattle.book.proofs.HeadLaws.{same_eq}
 use Rattle.fields.specs.Layout.{name_size, header_size, mark, mark_size, rule_at, vessels_at, movements_at, names_at, entries_at, length_at, entries_start, sheet_size, movements_off}
 use Rattle.names.specs.Names.{names_in, names_off}
 use Rattle.fields.specs.Movements.{given_size, entry_size, no_entry, given_in, entry_in, entries_given, entries_bytes, given_checks, entries_checks, numbers_in}
-use Rattle.sheet.specs.Sheet.{entries_read, rule_of, vessels_of, movements_of, no_sheet, read_number}
+use Rattle.sheet.specs.Sheet.{names_of, entries_read, rule_of, vessels_of, movements_of, no_sheet, read_number}
 use Rattle.sheet.specs.Answers.{movement_answer, movement_at}
 use Rattle.writing.specs.Writing.{count_given, header_bytes, sheet_of, given_off, count_checks, content_checks, room_check, write_number}
-use Rattle.roundtrip.specs.Rewriting.{names_of, numbers_of}
+use Rattle.roundtrip.specs.Rewriting.{numbers_of}
 use Rattle.fields.proofs.GroupLaws.{group_at, length_groups, groups_append}
 use Rattle.sheet.proofs.HeaderLaws.{counts_pass}
 use Rattle.sheet.proofs.ReadLaws.{Laid, good, good_names, good_entries}

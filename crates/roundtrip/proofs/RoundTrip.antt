@@ -8,10 +8,10 @@ use Rattle.std.proofs.Common.{ℕ, ◌*◌, ◌<◌, ◌≤◌, ◌≡◌, refl,
 use Rattle.fields.specs.Layout.{name_size, sheet_size}
 use Rattle.names.specs.Names.{short_name}
 use Rattle.fields.specs.Movements.{given_size, given_in}
-use Rattle.sheet.specs.Sheet.{rule_of, vessels_of, movements_of, read_number}
+use Rattle.sheet.specs.Sheet.{names_of, rule_of, vessels_of, movements_of, read_number}
 use Rattle.sheet.specs.Answers.{reading, movement_answer, movement_at, movement_asked, name_bytes, name_asked}
 use Rattle.writing.specs.Writing.{count_given, sheet_of, write_number, written}
-use Rattle.roundtrip.specs.Rewriting.{names_of, numbers_of}
+use Rattle.roundtrip.specs.Rewriting.{numbers_of}
 use Rattle.writing.proofs.WriteLaws.{write_starts}
 use Rattle.fields.proofs.BackLaws.{Below}
 use Rattle.roundtrip.proofs.WrittenReads as there

@@ -11,10 +11,10 @@ use Rattle.fields.specs.Movements.{given_size, no_entry, given_in, entries_in, e
 use Rattle.book.specs.Head.{last_rule, most_vessels}
 use Rattle.book.proofs.HeadLaws.{same_refl}
 use Rattle.sheet.specs.Sheet.{entries_read, names_read, rule_of, vessels_of, movements_of, no_sheet, layout_off, header_checks, body_checks, read_number}
-use Rattle.sheet.specs.Answers.{reading, movement_answer, movement_at, movement_number, name_bytes, name_number}
+use Rattle.sheet.specs.Answers.{movement_answer, movement_at, movement_number, name_bytes, name_number}
 use Rattle.writing.specs.Writing.{count_given, header_bytes, sheet_of, write_number}
 use Rattle.fields.proofs.GroupLaws.{group_at, groups_append, length_groups}
-use Rattle.sheet.proofs.AnswerLaws.{number_read, asked_inside, entry_of, name_of}
+use Rattle.sheet.proofs.AnswerLaws.{asked_inside, entry_of, name_of}
 use Rattle.sheet.proofs.HeaderLaws.{laid_out, counts_pass, out_fields}
 use Rattle.writing.proofs.SheetPut.{length_header}
 use Rattle.writing.proofs.WriteLaws.{Counted, Content, write_counted, write_content, length_sheet}
@@ -124,9 +124,6 @@ module _ (rule vessels room : ℕ) (names numbers : List ℕ) (accepted : write_
   unfolding read_number
   accepts = sym (passes (header_checks s) (body_checks (vessels_of s) (movements_of s) s) tt 0 0 good_header refl good_body)
 
-  reads : (reading s).number ≡ 0
-  reads = number_read s (reading s) refl ∙ accepts
-
   pub same_movement : (i : ℕ) → i < count → movement_at s i ≡ movement_answer 0 (given_in (drop (given_size * i) numbers))
   same_movement i h =
       let same : get_or (entries_read s) i no_entry ≡ get_or (entries_given count numbers) i no_entry = rw (header.held, header.moved, back) in
@@ -138,7 +135,7 @@ module _ (rule vessels room : ℕ) (names numbers : List ℕ) (accepted : write_
       name_of s v (rw header.held h) ∙ same ∙ group_at name_size (take name_size) vessels names v [] h
 
   pub named : (v : ℕ) → v < vessels → name_number s v ≡ 0
-  named v h = sym (asked_inside s (reading s) refl reads 5 (vessels_of s) v (rw header.held h))
+  named v h = asked_inside s accepts 5 (vessels_of s) v (rw header.held h)
 
   pub moved : (i : ℕ) → i < count → movement_number s i ≡ 0
-  moved i h = sym (asked_inside s (reading s) refl reads 20 (movements_of s) i (rw header.moved h))
+  moved i h = asked_inside s accepts 20 (movements_of s) i (rw header.moved h)

@@ -1,16 +1,12 @@
 -- Writing a sheet again that was read. Definitions only. Assumes nothing.
-use Rattle.std.specs.Prelude.{List, [], ◌∷◌, ◌++◌, ℕ, ◌*◌, ltb, length, take, drop}
+use Rattle.std.specs.Prelude.{List, [], ◌∷◌, ◌++◌, ℕ, ltb, length, drop}
 use Rattle.refusal.specs.Numbers.{◌if◌, if_zero}
 use Rattle.fields.specs.Movements.{numbers_in}
-use Rattle.fields.specs.Layout.{header_size, name_size}
 use Rattle.sheet.specs.declared.answer.Movement.{Movement}
-use Rattle.sheet.specs.Sheet.{vessels_of, entries_read}
+use Rattle.sheet.specs.Sheet.{entries_read}
 use Rattle.sheet.specs.Answers.{asked_number}
 
--- What the writer is given for a sheet that was read: its name bytes, and the numbers of its movements.
-abbrev pub names_of : List ℕ → List ℕ
-names_of s = take (name_size * vessels_of s) (drop header_size s)
-
+-- What the writer is given for a sheet that was read, besides its name bytes: the numbers of its movements.
 abbrev pub numbers_of : List ℕ → List ℕ
 numbers_of s = numbers_in (entries_read s)
 

@@ -5,11 +5,12 @@ ghost use Rattle.std.specs.Prelude.{◌≡◌, ◌≤◌, ◌+◌, ◌*◌, leng
 ghost use Rattle.std.proofs.lemmas.List.Edits.{sets};
 ghost use Rattle.refusal.specs.Refusals.{outcome_number};
 ghost use Rattle.fields.specs.Movements.{given_size};
-ghost use Rattle.sheet.specs.Sheet.{movements_of, read_number};
+ghost use Rattle.sheet.specs.Sheet.{movements_of};
 ghost use Rattle.roundtrip.specs.Rewriting.{movement_numbers, numbers_of, rewrite_number, rewritten};
 
-use fields::layout::{GIVEN_SIZE, HEADER_SIZE, MOST_MOVEMENTS, name_start};
+use fields::layout::{GIVEN_SIZE, MOST_MOVEMENTS};
 use refusal::Refusal;
+use sheet::Sheet;
 use sheet::answer::Movement;
 
 // Puts the five numbers of a movement from `at` on.
@@ -28,17 +29,13 @@ fn put_movement(numbers: &mut [u32], at: usize, m: Movement)
     numbers[at..at + GIVEN_SIZE].copy_from_slice(&five);
 }
 
-// Puts the numbers of all movements of a sheet that reads well at the front.
-fn take_numbers(sheet: &[u8], movements: u32, numbers: &mut [u32])
-    requires { (read_number sheet.now ≡ 0) × (movements ≡ movements_of sheet.now) × (given_size * movements ≤ length numbers.old) }
+// Puts the numbers of all movements of a sheet at the front.
+fn take_numbers(sheet: &Sheet, numbers: &mut [u32])
+    requires { given_size * movements_of sheet.now ≤ length numbers.old }
     ensures { numbers.new ≡ sets numbers.old 0 (numbers_of sheet.now) }
 {
-    for i in 0..movements {
-        put_movement(
-            numbers,
-            GIVEN_SIZE * (i as usize),
-            sheet::movement_known(sheet, i),
-        );
+    for i in 0..sheet.header().movements {
+        put_movement(numbers, GIVEN_SIZE * (i as usize), sheet.movement(i));
     }
 }
 
@@ -47,15 +44,15 @@ pub fn rewrite(sheet: &[u8], out: &mut [u8]) -> Result<(), Refusal>
     ensures number { outcome_number result ≡ rewrite_number sheet.now (length out.old) }
     ensures bytes { out.new ≡ rewritten sheet.now out.old }
 {
-    let header = sheet::read_header(sheet)?;
+    let known = Sheet::read(sheet)?;
+    let header = known.header();
     let mut room = [0u32; GIVEN_SIZE * MOST_MOVEMENTS];
-    take_numbers(sheet, header.movements, &mut room);
-    let names_end = name_start(header.vessels);
+    take_numbers(&known, &mut room);
     let count = GIVEN_SIZE * (header.movements as usize);
     writing::try_write(
         header.rule,
         header.vessels,
-        &sheet[HEADER_SIZE..names_end],
+        known.names(),
         &room[..count],
         out,
     )
