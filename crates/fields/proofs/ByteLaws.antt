@@ -1,6 +1,6 @@
 -- Laws of numbers in bytes: what std makes of the bytes read, and the comparison of two slices.
 -- Assumes nothing.
-use Rattle.std.proofs.Common.{ℕ, ◌+◌, ◌*◌, ◌-◌, add-zero, arith, ◌≡◌, refl, List, [], ◌∷◌, eqb, length, get_or, take, drop, length-drop, get_or-drop, take_all}
+use Rattle.std.proofs.Common.{ℕ, ◌+◌, ◌*◌, add-zero, arith, ◌≡◌, refl, List, [], ◌∷◌, eqb, get_or, drop, get_or-drop}
 use Rattle.std.specs.Cmp.Lexicographic.{pointwise}
 use Rattle.book.specs.Head.{same}
 use Rattle.fields.specs.Bytes.{value_in}

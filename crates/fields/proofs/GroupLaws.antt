@@ -1,5 +1,6 @@
 -- Laws of a list cut into groups: how many there are, which is which, and the one that a scan meets next. Assumes nothing.
-use Rattle.std.proofs.Common.{ℕ, zero, suc, ◌+◌, ◌*◌, ◌<◌, ◌≤◌, mul-zero, mul-suc, add_comm, add-one, arith, ◌≡◌, refl, sym, ap, ap₂, ◌∙◌, Bool, true, false, List, ◌∷◌, ◌++◌, length, get_or, drop, drop_of_length-le, length-drop, drop-drop, drop-cons}
+use Rattle.std.proofs.Common.{ℕ, zero, suc, ◌+◌, ◌*◌, ◌<◌, ◌≤◌, mul-zero, mul-suc, add_comm, arith, ◌≡◌, refl, sym, ap, ap₂, ◌∙◌, Bool, true, false, List, ◌∷◌, ◌++◌, length, get_or, drop, drop_of_length-le, length-drop, drop-drop}
+use Rattle.std.proofs.lemmas.List.{drop_more}
 use lib.Seq.{drop-append-le}
 use Rattle.fields.specs.Bytes.{groups, exists}
 
@@ -18,7 +19,7 @@ module _ {A : Type 0} (size : ℕ) (f : List ℕ → A) where
 
   pub next_group : (count : ℕ) (l : List ℕ) (i : ℕ) (d : A) → i < count
       → drop i (groups size f count l) ≡ get_or (groups size f count l) i d ∷ drop (i + 1) (groups size f count l)
-  next_group count l i d h = rw (add-one, drop-cons (groups size f count l) i d (rw length_groups h))
+  next_group count l i d h = drop_more (groups size f count l) i d (rw length_groups h)
 
 -- what lies behind the groups does not matter, if it does not matter to what is made of one
 pub groups_append : {A : Type 0} (size : ℕ) (f : List ℕ → A) → ((l r : List ℕ) → size ≤ length l → f (l ++ r) ≡ f l)
