@@ -13,6 +13,12 @@ unfolding groups
 map_chunks size f same zero l = refl
 map_chunks size f same (suc count) l = rw (same l, map_chunks size f same count (drop size l))
 
+-- the arrays themselves
+pub chunks_taken : (size count : ℕ) (l : List ℕ) → first_chunks size count l ≡ groups size (take size) count l
+unfolding groups
+chunks_taken size zero l = refl
+chunks_taken size (suc count) l = rw (chunks_taken size count (drop size l))
+
 entry_taken : (l : List ℕ) → entry_in (take entry_size l) ≡ entry_in l
 unfolding value_in
 entry_taken l = simp (get_or-drop, drop-drop) (grind (arith, get_or-take))
