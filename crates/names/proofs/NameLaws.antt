@@ -1,5 +1,5 @@
 -- Laws of names: what std counts, tests and compares as document 01 does, and the part of the bytes that is a name. Assumes nothing.
-use Rattle.std.proofs.Common.{ℕ, ◌+◌, arith, ◌≡◌, refl, sym, ◌∙◌, Bool, true, false, not, cond, List, [], ◌∷◌, eqb, ltb, lt-ltb, eqb-true, length, drop, ◌*◌, ◌/◌}
+use Rattle.std.proofs.Common.{ℕ, ◌+◌, arith, ◌≡◌, refl, sym, ◌∙◌, Bool, true, false, not, cond, List, [], ◌∷◌, eqb, ltb, lt-ltb, eqb-true, length, drop, ◌*◌, ◌/◌, ◌≤◌, ◌++◌, take, ap, length-take, take-append-drop}
 use Rattle.std.proofs.lemmas.Bool.{eqb-false}
 use Rattle.std.specs.Char.{is_ascii_graphic}
 use Rattle.std.specs.Cmp.Lexicographic.{pointwise}
@@ -10,6 +10,8 @@ use Rattle.names.specs.Names.{graphic, letters, one_more_if, well_formed, used_i
 use Rattle.fields.specs.Layout.{name_size}
 use Rattle.std.specs.Simd.{first_chunks}
 use Rattle.fields.proofs.ChunkLaws.{chunks_taken}
+use Rattle.fields.proofs.GroupLaws.{groups_append}
+use lib.Seq.{take-append-le}
 use Rattle.fields.proofs.ByteLaws.{slices_compared, same_either}
 
 -- std's count of graphic bytes from the front on is the letters
@@ -44,3 +46,11 @@ used_found name (other ∷ behind) r e =
 -- the names that std cuts a part of the bytes into, which holds the names and no more
 pub names_cut : (vessels : ℕ) (l : List ℕ) → length l ≡ name_size * vessels → first_chunks name_size (length l / name_size) l ≡ names_in vessels l
 names_cut vessels l e = let count : length l / name_size ≡ vessels = omega arith in rw count (chunks_taken name_size vessels l)
+
+-- what lies behind the names does not matter
+pub names_append : (vessels : ℕ) (l r : List ℕ) → name_size * vessels ≤ length l → names_in vessels (l ++ r) ≡ names_in vessels l
+names_append = groups_append name_size (take name_size) (λ l r h. take-append-le name_size l r h)
+
+pub names_taken : (vessels : ℕ) (l : List ℕ) → name_size * vessels ≤ length l → names_in vessels (take (name_size * vessels) l) ≡ names_in vessels l
+names_taken vessels l h =
+    sym (names_append vessels (take (name_size * vessels) l) (drop (name_size * vessels) l) (rw length-take (omega arith))) ∙ ap (names_in vessels) (take-append-drop (name_size * vessels) l)
