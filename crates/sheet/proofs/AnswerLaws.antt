@@ -1,6 +1,6 @@
 -- Laws of the answers: each way out of `read_header`, `find_movement` and `check_vessel`, and the bounds that a good answer gives.
 -- Assumes nothing.
-use Rattle.std.proofs.Common.{ℕ, zero, suc, ◌+◌, ◌*◌, ◌<◌, ◌≤◌, arith, ◌≡◌, refl, sym, ap, ◌∙◌, List, [], ◌∷◌, leb-false, le-leb, leb, get_or, length, take, drop, drop-drop}
+use Rattle.std.proofs.Common.{ℕ, zero, suc, ◌+◌, ◌-◌, ◌*◌, ◌/◌, ◌<◌, ◌≤◌, arith, ◌≡◌, refl, sym, ap, ◌∙◌, List, [], ◌∷◌, leb-false, le-leb, leb, get_or, length, take, drop, drop-drop, length-take, length-drop}
 use borrow.Author.Tests.{lt-leb}
 use Rattle.std.specs.Prelude.{Result, Ok, Err}
 use Rattle.std.specs.Result.{IsErrAnd}
@@ -12,9 +12,13 @@ use Rattle.sheet.specs.declared.answer.Header.{Header}
 use Rattle.sheet.specs.declared.answer.Reading.{Reading}
 use Rattle.sheet.specs.declared.answer.Movement.{Movement}
 use Rattle.fields.specs.Layout.{name_size, header_size, name_start, entries_start}
+use Rattle.fields.specs.declared.entries.Entry.{Entry}
 use Rattle.fields.specs.Movements.{entry_size, entry_in, no_entry}
 use Rattle.sheet.specs.Sheet.{entries_read, names_read, vessels_of, movements_of, read_number}
 use Rattle.sheet.specs.Answers.{header_numbers, header_of, refused_reading, reading, reading_of, movement_of, movement_answer, asked_number, movement_at, movement_number, movement_asked, name_number, name_bytes}
+use Rattle.std.specs.Simd.{first_chunks}
+use Rattle.std.proofs.lemmas.List.{take_rest}
+use Rattle.fields.proofs.ChunkLaws.{entry_chunk}
 use Rattle.fields.proofs.GroupLaws.{group_at}
 use Rattle.refusal.proofs.Refusals.{some_number}
 use Rattle.sheet.proofs.ReadLaws.{good}
@@ -107,10 +111,22 @@ module _ (s : List ℕ) (r : Reading) (vessel : ℕ) (e : r ≡ reading s) (z : 
   pub vessel_good : vessel < r.vessels → 0 ≡ name_number s vessel
   vessel_good h = asked_inside s r e z 5 (vessels_of s) vessel (rw (← read_vessels s r e z) h)
 
--- the movement at an index lies in a sheet that reads well
-pub entry_fits : (s : List ℕ) (index vessels : ℕ) → vessels ≡ vessels_of s → read_number s ≡ 0 → index < movements_of s
-    → entries_start vessels + entry_size * index + entry_size ≤ length s
-entry_fits s index vessels ev z h = let l = good s _ refl z in omega arith
+-- the movement at an index of a sheet that reads well, among those that are cut out of it
+module _ (s : List ℕ) (index vessels start : ℕ) (ev : vessels ≡ vessels_of s) (es : start ≡ name_start vessels) (z : read_number s ≡ 0) where
+  abbrev rest : List ℕ
+  rest = take (length s - start) (drop start s)
+
+  pub entries_fit : start ≤ length s
+  entries_fit = let l = good s _ refl z in omega arith
+
+  pub entry_fits : (n : ℕ) → n ≡ length rest / entry_size → index < movements_of s → index < n
+  entry_fits n en h = let l = good s _ refl z in rw en (rw (length-take, length-drop) (omega arith))
+
+  pub entry_known : (entries : List (List ℕ)) (e : Entry) → entries ≡ first_chunks entry_size (length rest / entry_size) rest → index < movements_of s
+      → e ≡ entry_in (get_or entries index []) → movement_answer 0 e ≡ movement_at s index
+  entry_known entries e cut h is =
+      let found : entry_in (get_or entries index []) ≡ entry_in (drop (entry_size * index) rest) = rw cut (entry_chunk (length rest / entry_size) rest index (entry_fits _ refl h)) in
+      ap (movement_answer 0) (is ∙ found ∙ rw (take_rest, drop-drop (entry_size * index) start s, es, ev))
 
 -- the eight bytes of a name lie in a sheet that has it
 pub name_fits : (s : List ℕ) (vessel n : ℕ) → n ≡ name_number s vessel → n ≡ 0 → name_start vessel + name_size ≤ length s

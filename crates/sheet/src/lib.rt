@@ -9,7 +9,7 @@ ghost use Rattle.sheet.specs.Answers.{reading, movement_at, movement_asked, move
 
 use answer::{Movement, Reading};
 use fields::bytes::read16;
-use fields::layout::{NAME_SIZE, VESSELS_AT, name_start, sheet_size};
+use fields::layout::{ENTRY_SIZE, NAME_SIZE, VESSELS_AT, name_start};
 pub use reader::read_header;
 use refusal::Refusal;
 
@@ -38,12 +38,14 @@ pub fn read(sheet: &[u8]) -> Reading
 }
 
 // The movement at an index of a sheet that is known to read well: the sheet is not read again.
+#[tactic(auto, using(crate::proofs::AnswerLaws::sheet_fits, crate::proofs::AnswerLaws::entries_fit))]
 pub fn movement_known(sheet: &[u8], index: u32) -> Movement
     requires { (read_number sheet.now ≡ 0) × (index < movements_of sheet.now) }
     ensures { result ≡ movement_at sheet.now index }
 {
-    let at = sheet_size(read16(sheet, VESSELS_AT), index);
-    let e = fields::entries::read_entry(sheet, at);
+    let start = name_start(read16(sheet, VESSELS_AT));
+    let (entries, _) = sheet[start..].as_chunks::<ENTRY_SIZE>();
+    let e = fields::entries::read_entry(&entries[index as usize]);
     Movement {
         number: 0,
         source: e.source,
