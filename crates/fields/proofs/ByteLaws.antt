@@ -1,8 +1,9 @@
 -- Laws of numbers in bytes: what std makes of the bytes read, and the comparison of two slices.
 -- Assumes nothing.
-use Rattle.std.proofs.Common.{ℕ, ◌+◌, ◌*◌, ◌-◌, add-zero, arith, ◌≡◌, refl, List, [], ◌∷◌, eqb, length, get_or, take, drop, length-drop, get_or-drop, take_all}
+use Rattle.std.proofs.Common.{ℕ, ◌+◌, ◌*◌, add-zero, arith, ◌≡◌, refl, List, [], ◌∷◌, eqb, get_or, drop, get_or-drop}
 use Rattle.std.specs.Cmp.Lexicographic.{pointwise}
 use Rattle.book.specs.Head.{same}
+use Rattle.book.proofs.HeadLaws.{same_test, same_refl, same_eq}
 use Rattle.fields.specs.Bytes.{value_in}
 
 pub value_one : (l : List ℕ) (at a : ℕ) → a ≡ get_or l at 0 → a ≡ value_in 1 (drop at l)
@@ -26,3 +27,7 @@ slices_compared [] [] = refl
 slices_compared [] (y ∷ b) = refl
 slices_compared (x ∷ a) [] = refl
 slices_compared (x ∷ a) (y ∷ b) = rw (slices_compared a b)
+
+-- either list may be compared with the other
+pub same_either : (a b : List ℕ) → same a b ≡ same b a
+same_either a b = same_test (same a b) (same b a) (λ q. rw (same_eq a b q) (same_refl b)) (λ q. rw (same_eq b a q) (same_refl a))

@@ -1,18 +1,12 @@
--- Laws of movements: what the reads and the numbers given make, the scan for a movement that fails a check, and what passed checks tell.
+-- Laws of movements: the scan for a movement that fails a check, and what passed checks tell.
 -- Assumes nothing.
-use Rattle.std.proofs.Common.{ℕ, zero, suc, ◌+◌, ◌*◌, ◌<◌, ◌≤◌, Bool, false, ◌≡◌, refl, sym, ◌∙◌, List, [], ◌∷◌, ◌++◌, length, get_or, drop, drop_of_length-le, drop-drop, leb-false, ltb-false, le-ltb, T, leb, ltb, arith}
+use Rattle.std.proofs.Common.{ℕ, zero, suc, ◌+◌, ◌<◌, ◌≤◌, Bool, false, ◌≡◌, refl, sym, ◌∙◌, List, [], ◌∷◌, ◌++◌, length, get_or, drop, drop_of_length-le, map, leb-false, ltb-false, le-ltb, T, leb, ltb, arith}
+use Rattle.std.proofs.lemmas.List.{drop_more}
 use Rattle.refusal.specs.Numbers.{Check, ◌if◌, first, if_zero}
 use Rattle.refusal.proofs.Numbers.{named, passed, first_append, not_zero, passed_first, passed_second, neither, named_append, refuses_less, alike_behind}
 use Rattle.book.specs.Transfer.{most_age}
 use Rattle.fields.specs.declared.entries.Entry.{Entry}
-use Rattle.fields.specs.Bytes.{value_in, groups}
-use Rattle.fields.specs.Movements.{no_entry, entry_in, entry_checks, given_checks, entries_checks}
-use Rattle.fields.proofs.GroupLaws.{group_at, next_group, length_groups}
-
-pub entry_read : (l : List ℕ) (at s d a t q : ℕ) → s ≡ value_in 1 (drop at l) → d ≡ value_in 1 (drop (at + 1) l) → a ≡ value_in 2 (drop (at + 2) l)
-    → t ≡ value_in 4 (drop (at + 4) l) → q ≡ value_in 4 (drop (at + 8) l)
-    → ◌≡◌ {A = Entry} record { source = s; destination = d; age = a; minute = t; weight = q } (entry_in (drop at l))
-entry_read l at s d a t q es ed ea et eq = simp (es, ed, ea, et, eq, drop-drop)
+use Rattle.fields.specs.Movements.{no_entry, entry_checks, given_checks, entries_checks}
 
 -- both kinds of checks of a movement have numbers
 pub named_entry : (vessels : ℕ) (e : Entry) → T (named (entry_checks vessels e))
@@ -41,28 +35,22 @@ module _ (checks : Entry → List Check) (ok : (e : Entry) → T (named (checks 
   each_passed (e ∷ es) z zero h = passed_first (checks e) (entries_checks checks es) (ok e) z
   each_passed (e ∷ es) z (suc i) h = each_passed es (passed_second (checks e) (entries_checks checks es) (ok e) z) i (omega arith)
 
--- Where a scan stands before movement i: the checks of the movements left tell what those of all do.
-pub record Checked (checks : Entry → List Check) (size : ℕ) (f : List ℕ → Entry) (count : ℕ) (l : List ℕ) (i : ℕ) : Type 0 where
-  pub inside : i ≤ count
-  pub left : first (entries_checks checks (drop i (groups size f count l))) ≡ first (entries_checks checks (groups size f count l))
+-- a scan of movements for one that fails a check: those left, from movement i on, tell what all do
+module _ (checks : Entry → List Check) (ok : (e : Entry) → T (named (checks e))) (make : List ℕ → Entry) (l : List (List ℕ)) (i : ℕ) (e : Entry) (n : ℕ) where
+  module _ (left : first (entries_checks checks (map make (drop i l))) ≡ first (entries_checks checks (map make l))) (h : i < length l) (is : e ≡ make (get_or l i [])) (says : n ≡ first (checks e)) where
+    one : if_zero n (first (entries_checks checks (map make (drop (i + 1) l)))) n ≡ first (entries_checks checks (map make l))
+    one = rw (says, is, ← next_check checks ok) (rw (drop_more l i [] h) at left)
 
-module _ (checks : Entry → List Check) (size : ℕ) (f : List ℕ → Entry) (count : ℕ) (l : List ℕ) where
-  module _ (i : ℕ) (s : Checked checks size f count l i) where
-    module _ (ok : (e : Entry) → T (named (checks e))) (h : i < count) (e : Entry) (is : e ≡ f (drop (size * i) l)) (n : ℕ) (says : n ≡ first (checks e)) where
-      one : if_zero n (first (entries_checks checks (drop (i + 1) (groups size f count l)))) n ≡ first (entries_checks checks (groups size f count l))
-      one = rw (says, is, ← group_at size f count l i no_entry h) (rw (next_group size f count l i no_entry h, next_check checks ok) at s.left)
+    pub check_turn : n ≡ 0 → first (entries_checks checks (map make (drop (i + 1) l))) ≡ first (entries_checks checks (map make l))
+    check_turn z = rw z at one
 
-      pub check_turn : n ≡ 0 → Checked checks size f count l (i + 1)
-      check_turn z = record { inside = omega arith; left = rw z at one }
+    pub check_stop : (n ≡ 0 → ⊥) → n ≡ first (entries_checks checks (map make l))
+    check_stop z = not_zero n (first (entries_checks checks (map make (drop (i + 1) l)))) n z ∙ one
 
-      pub check_stop : (n ≡ 0 → ⊥) → n ≡ first (entries_checks checks (groups size f count l))
-      check_stop z = not_zero n (first (entries_checks checks (drop (i + 1) (groups size f count l)))) n z ∙ one
-
-    pub check_end : count ≤ i → 0 ≡ first (entries_checks checks (groups size f count l))
-    unfolding entries_checks
-    check_end h =
-        let long : length (groups size f count l) ≤ i = rw length_groups h in
-        rw (drop_of_length-le (groups size f count l) long) at s.left
+pub check_end : (checks : Entry → List Check) (make : List ℕ → Entry) (l : List (List ℕ)) (i : ℕ)
+    → first (entries_checks checks (map make (drop i l))) ≡ first (entries_checks checks (map make l)) → length l ≤ i → 0 ≡ first (entries_checks checks (map make l))
+unfolding entries_checks
+check_end checks make l i left h = rw (drop_of_length-le l h) at left
 
 -- What the checks of a movement given tell once they are passed.
 pub record Sound (vessels : ℕ) (e : Entry) : Type 0 where

@@ -1,5 +1,6 @@
--- Laws of a list cut into groups: how many there are, which is which, and the one that a scan meets next. Assumes nothing.
-use Rattle.std.proofs.Common.{ℕ, zero, suc, ◌+◌, ◌*◌, ◌<◌, ◌≤◌, mul-zero, mul-suc, add_comm, add-one, arith, ◌≡◌, refl, sym, ap, ap₂, ◌∙◌, Bool, true, false, List, ◌∷◌, ◌++◌, length, get_or, drop, drop_of_length-le, length-drop, drop-drop, drop-cons}
+-- Laws of a list cut into groups: how many there are, and which is which; and of a scan of a list. Assumes nothing.
+use Rattle.std.proofs.Common.{ℕ, zero, suc, ◌+◌, ◌*◌, ◌<◌, ◌≤◌, mul-zero, mul-suc, add_comm, arith, ◌≡◌, refl, sym, ap, ap₂, ◌∙◌, Bool, true, false, List, ◌∷◌, ◌++◌, length, get_or, drop, drop_of_length-le, length-drop, drop-drop}
+use Rattle.std.proofs.lemmas.List.{drop_more}
 use lib.Seq.{drop-append-le}
 use Rattle.fields.specs.Bytes.{groups, exists}
 
@@ -18,7 +19,7 @@ module _ {A : Type 0} (size : ℕ) (f : List ℕ → A) where
 
   pub next_group : (count : ℕ) (l : List ℕ) (i : ℕ) (d : A) → i < count
       → drop i (groups size f count l) ≡ get_or (groups size f count l) i d ∷ drop (i + 1) (groups size f count l)
-  next_group count l i d h = rw (add-one, drop-cons (groups size f count l) i d (rw length_groups h))
+  next_group count l i d h = drop_more (groups size f count l) i d (rw length_groups h)
 
 -- what lies behind the groups does not matter, if it does not matter to what is made of one
 pub groups_append : {A : Type 0} (size : ℕ) (f : List ℕ → A) → ((l r : List ℕ) → size ≤ length l → f (l ++ r) ≡ f l)
@@ -32,21 +33,16 @@ groups_append {A} size f same (suc count) l r h =
     ap₂ (λ (x : A) (xs : List A). x ∷ xs) (same l r one)
     (ap (groups size f count) (drop-append-le size l r one) ∙ groups_append size f same count (drop size l) r rest)
 
--- a scan of the groups for one that passes a test: a turn, a find, the end
-module _ {A : Type 0} (size : ℕ) (f : List ℕ → A) (count : ℕ) (l : List ℕ) (t : A → List A → Bool) (d : A) (i : ℕ) (r m : Bool) where
-  pub scan_turn : i < count → r ≡ t (get_or (groups size f count l) i d) (drop (i + 1) (groups size f count l)) → r ≡ false
-      → exists t (drop i (groups size f count l)) ≡ m → exists t (drop (i + 1) (groups size f count l)) ≡ m
+-- a scan of a list for an element that passes a test, which is told those behind it: a turn, a find, the end
+module _ {A : Type 0} (t : A → List A → Bool) (xs : List A) (i : ℕ) (d : A) (r m : Bool) where
+  pub scan_turn : i < length xs → r ≡ t (get_or xs i d) (drop (i + 1) xs) → r ≡ false → exists t (drop i xs) ≡ m → exists t (drop (i + 1) xs) ≡ m
   unfolding exists
-  scan_turn h e q inv = rw (next_group size f count l i d h, sym e ∙ q) at inv
+  scan_turn h e q inv = rw (drop_more xs i d h, sym e ∙ q) at inv
 
-  pub scan_stop : i < count → r ≡ t (get_or (groups size f count l) i d) (drop (i + 1) (groups size f count l)) → r ≡ true
-      → exists t (drop i (groups size f count l)) ≡ m → true ≡ m
+  pub scan_stop : i < length xs → r ≡ t (get_or xs i d) (drop (i + 1) xs) → r ≡ true → exists t (drop i xs) ≡ m → true ≡ m
   unfolding exists
-  scan_stop h e q inv = rw (next_group size f count l i d h, sym e ∙ q) at inv
+  scan_stop h e q inv = rw (drop_more xs i d h, sym e ∙ q) at inv
 
-pub scan_end : {A : Type 0} (size : ℕ) (f : List ℕ → A) (count : ℕ) (l : List ℕ) (t : A → List A → Bool) (i : ℕ) (m : Bool)
-    → count ≤ i → exists t (drop i (groups size f count l)) ≡ m → false ≡ m
+pub scan_end : {A : Type 0} (t : A → List A → Bool) (xs : List A) (i : ℕ) (m : Bool) → length xs ≤ i → exists t (drop i xs) ≡ m → false ≡ m
 unfolding exists
-scan_end size f count l t i m h inv =
-    let long : length (groups size f count l) ≤ i = rw length_groups h in
-    rw (drop_of_length-le (groups size f count l) long) at inv
+scan_end t xs i m h inv = rw (drop_of_length-le xs h) at inv

@@ -2,6 +2,7 @@
 pub mod LayoutLaws
 pub mod ByteLaws
 pub mod GroupLaws
+pub mod ChunkLaws
 pub mod EntryLaws
 pub mod PutLaws
 pub mod BackLaws

@@ -1,14 +1,18 @@
 -- Laws of names: what std counts, tests and compares as document 01 does, and the part of the bytes that is a name. Assumes nothing.
-use Rattle.std.proofs.Common.{ℕ, suc, ◌+◌, ◌-◌, ◌*◌, ◌<◌, ◌≤◌, arith, ◌≡◌, refl, sym, ap, ap₂, ◌∙◌, Bool, true, false, not, cond, List, [], ◌∷◌, eqb, ltb, lt-ltb, length, take, drop}
+use Rattle.std.proofs.Common.{ℕ, ◌+◌, arith, ◌≡◌, refl, sym, ◌∙◌, Bool, true, false, not, cond, List, [], ◌∷◌, eqb, ltb, lt-ltb, eqb-true, length, drop, ◌*◌, ◌/◌, ◌≤◌, ◌++◌, take, ap, length-take, take-append-drop}
+use Rattle.std.proofs.lemmas.Bool.{eqb-false}
 use Rattle.std.specs.Char.{is_ascii_graphic}
 use Rattle.std.specs.Cmp.Lexicographic.{pointwise}
-use Rattle.std.specs.List.{list_all, prefix_len}
-use Rattle.book.specs.Head.{same, all_zero}
+use Rattle.std.specs.List.{list_all, list_any, prefix_len}
+use Rattle.book.specs.Head.{all_zero}
+use Rattle.fields.specs.Bytes.{exists}
+use Rattle.names.specs.Names.{graphic, letters, one_more_if, well_formed, used_in, names_in}
 use Rattle.fields.specs.Layout.{name_size}
-use Rattle.names.specs.Names.{graphic, letters, one_more_if, well_formed, name_at, name_off, used_in}
-use Rattle.std.proofs.lemmas.List.{take_rest}
-use Rattle.fields.proofs.ByteLaws.{slices_compared}
-use Rattle.fields.proofs.GroupLaws.{group_at}
+use Rattle.std.specs.Simd.{first_chunks}
+use Rattle.fields.proofs.ChunkLaws.{chunks_taken}
+use Rattle.fields.proofs.GroupLaws.{groups_append}
+use lib.Seq.{take-append-le}
+use Rattle.fields.proofs.ByteLaws.{slices_compared, same_either}
 
 -- std's count of graphic bytes from the front on is the letters
 pub letters_counted : (s : List ℕ) → prefix_len is_ascii_graphic s ≡ letters s
@@ -20,48 +24,33 @@ letters_counted (b ∷ s) = go (graphic b) (letters_counted s)
     go true ih = omega (arith, ih)
     go false ih = refl
 
-pub few_letters : (s : List ℕ) → letters s ≤ length s
-unfolding letters
-few_letters [] = omega arith
-few_letters (b ∷ s) = go (graphic b) (few_letters s)
-  where
-    go : (t : Bool) → letters s ≤ length s → one_more_if t (letters s) ≤ suc (length s)
-    go true ih = omega arith
-    go false ih = omega arith
+-- the two ways out of `well_formed`: the name is cut behind its letters
+module _ (s front rest : List ℕ) (n : ℕ) (e : Bool) (is : n ≡ letters s) (cut : length front ≡ n) (says : e ≡ eqb (length front) 0) where
+  pub no_letters : e ≡ true → not e ≡ well_formed s
+  unfolding well_formed
+  no_letters q = let z : letters s ≡ 0 = omega (arith, eqb-true (length front) 0 (sym says ∙ q)) in rw (q, z)
 
--- std's test of each byte is that all are zeros
-pub zeros_tested : (s : List ℕ) → list_all (λ b. eqb b 0) s ≡ all_zero s
-unfolding all_zero
-zeros_tested [] = refl
-zeros_tested (b ∷ s) = rw (zeros_tested s)
+  pub letters_then : (r : Bool) → e ≡ false → rest ≡ drop n s → r ≡ list_all (λ b. eqb b 0) rest → r ≡ well_formed s
+  unfolding well_formed all_zero
+  letters_then r q behind zeros =
+      let p : ltb 0 (letters s) ≡ true = lt-ltb 0 (letters s) (omega (arith, eqb-false (length front) 0 (sym says ∙ q))) in
+      zeros ∙ simp (behind, is, p)
 
--- the eight bytes from which a vessel's name is read
-module _ (l : List ℕ) (vessels : ℕ) where
-  name_part : (i : ℕ) (a : List ℕ) → i < vessels → a ≡ take name_size (drop (name_size * i) l) → a ≡ name_at vessels l i
-  name_part i a h e = e ∙ sym (group_at name_size (take name_size) vessels l i [] h)
+-- what std finds among the names behind
+pub used_found : (name : List ℕ) (behind : List (List ℕ)) (r : Bool) → r ≡ list_any (λ other. pointwise eqb other name) behind → r ≡ used_in name behind
+unfolding exists
+used_found name [] r e = e
+used_found name (other ∷ behind) r e =
+    rw (slices_compared other name, same_either other name, used_found name behind (list_any (λ other. pointwise eqb other name) behind) refl) at e
 
-  pub names_compared : (i j : ℕ) (a b : List ℕ) (r : Bool) → i < vessels → j < vessels → a ≡ take name_size (drop (name_size * i) l)
-      → b ≡ take name_size (drop (name_size * j) l) → r ≡ pointwise eqb a b → r ≡ same (name_at vessels l i) (name_at vessels l j)
-  names_compared i j a b r hi hj ea eb er = er ∙ slices_compared a b ∙ ap₂ same (name_part i a hi ea) (name_part j b hj eb)
+-- the names that std cuts a part of the bytes into, which holds the names and no more
+pub names_cut : (vessels : ℕ) (l : List ℕ) → length l ≡ name_size * vessels → first_chunks name_size (length l / name_size) l ≡ names_in vessels l
+names_cut vessels l e = let count : length l / name_size ≡ vessels = omega arith in rw count (chunks_taken name_size vessels l)
 
--- the two ways out of `well_formed`
-pub no_letters : (s : List ℕ) (n : ℕ) → n ≡ letters s → n ≡ 0 → not (eqb n 0) ≡ well_formed s
-unfolding well_formed
-no_letters s n e z = rw (sym e ∙ z, z)
+-- what lies behind the names does not matter
+pub names_append : (vessels : ℕ) (l r : List ℕ) → name_size * vessels ≤ length l → names_in vessels (l ++ r) ≡ names_in vessels l
+names_append = groups_append name_size (take name_size) (λ l r h. take-append-le name_size l r h)
 
-pub letters_then : (s : List ℕ) (n : ℕ) (r : Bool) → n ≡ letters s → (n ≡ 0 → ⊥) → r ≡ all_zero (take (length s - n) (drop n s)) → r ≡ well_formed s
-unfolding well_formed
-letters_then s n r e z t =
-    let p : ltb 0 (letters s) ≡ true = lt-ltb 0 (letters s) (omega arith) in
-    t ∙ ap all_zero (take_rest s n) ∙ simp (e, p)
-
--- the two ways out of `name_off`
-module _ (l : List ℕ) (vessels i : ℕ) (a : List ℕ) (rest : List (List ℕ)) (w : Bool) (h : i < vessels) (ea : a ≡ take name_size (drop (name_size * i) l)) (ew : w ≡ well_formed a) where
-  formed : w ≡ well_formed (name_at vessels l i)
-  formed = ew ∙ ap well_formed (name_part l vessels i a h ea)
-
-  pub ill_formed : w ≡ false → true ≡ name_off (name_at vessels l i) rest
-  ill_formed q = rw (← formed, q)
-
-  pub not_ill_formed : (r : Bool) → w ≡ true → r ≡ used_in (name_at vessels l i) rest → r ≡ name_off (name_at vessels l i) rest
-  not_ill_formed r q e = rw (← formed, q) e
+pub names_taken : (vessels : ℕ) (l : List ℕ) → name_size * vessels ≤ length l → names_in vessels (take (name_size * vessels) l) ≡ names_in vessels l
+names_taken vessels l h =
+    sym (names_append vessels (take (name_size * vessels) l) (drop (name_size * vessels) l) (rw length-take (omega arith))) ∙ ap (names_in vessels) (take-append-drop (name_size * vessels) l)

@@ -1,6 +1,6 @@
 -- The names of the vessels: "A name is 8 bytes: 1 to 8 bytes of 21 to 7E hexadecimal, then zeros."
 -- Definitions only. Assumes nothing.
-use Rattle.std.specs.Prelude.{Bool, true, false, not, ◌&&◌, ◌||◌, List, [], ◌∷◌, ℕ, suc, ◌+◌, ltb, leb, get_or, take, drop}
+use Rattle.std.specs.Prelude.{Bool, true, false, not, ◌&&◌, ◌||◌, List, [], ◌∷◌, ℕ, suc, ltb, leb, take, drop}
 use Rattle.book.specs.Head.{same, all_zero}
 use Rattle.fields.specs.Bytes.{groups, exists}
 use Rattle.fields.specs.Layout.{name_size}
@@ -35,13 +35,6 @@ short_name name = take (letters name) name
 -- The names of `vessels` vessels, eight bytes each.
 abbrev pub names_in : ℕ → List ℕ → List (List ℕ)
 names_in vessels l = groups name_size (take name_size) vessels l
-
--- The name of vessel i, and those behind it.
-abbrev pub name_at : ℕ → List ℕ → ℕ → List ℕ
-name_at vessels l i = get_or (names_in vessels l) i []
-
-abbrev pub names_behind : ℕ → List ℕ → ℕ → List (List ℕ)
-names_behind vessels l i = drop (i + 1) (names_in vessels l)
 
 abbrev pub used_in : List ℕ → List (List ℕ) → Bool
 used_in name names = exists (λ n rest. same name n) names

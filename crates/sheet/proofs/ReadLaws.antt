@@ -4,15 +4,19 @@ use Rattle.std.specs.Prelude.{Result, Ok, Err, MatchResult}
 use Rattle.std.specs.Result.{IsErrAnd}
 use Rattle.refusal.specs.declared.Refusal.{Refusal}
 use Rattle.refusal.specs.Refusals.{number_of}
-use Rattle.std.proofs.Common.{ℕ, ◌-◌, ◌≤◌, arith, ◌≡◌, refl, sym, ap, ◌∙◌, Bool, false, not, List, [], ◌∷◌, ◌++◌, eqb, length, take, drop}
+use Rattle.std.proofs.Common.{ℕ, ◌-◌, ◌*◌, ◌/◌, ◌≤◌, arith, ◌≡◌, refl, sym, ap, ◌∙◌, Bool, true, false, not, List, [], ◌∷◌, ◌++◌, eqb, map, length, take, drop, length-take, length-drop}
 use Rattle.refusal.specs.Numbers.{Check, ◌if◌, first}
 use Rattle.refusal.proofs.Numbers.{passed, neither, same_if, past, refuses, passes, passed_first, passed_second}
 use Rattle.fields.specs.Bytes.{value_in}
 use Rattle.names.specs.Names.{names_in, names_off}
-use Rattle.fields.specs.Movements.{entries_in, entry_checks, entries_checks}
+use Rattle.fields.specs.declared.entries.Entry.{Entry}
+use Rattle.fields.specs.Movements.{entry_size, entry_in, entry_checks, entries_checks}
 use Rattle.book.specs.Head.{open_checks}
-use Rattle.fields.specs.Layout.{most_movements, header_size, names_at, entries_at, length_at, entries_start, sheet_size, movements_off, Within}
+use Rattle.fields.specs.Layout.{most_movements, name_size, name_start, header_size, names_at, entries_at, length_at, entries_start, sheet_size, movements_off, Within}
 use Rattle.sheet.specs.Sheet.{entries_read, names_read, rule_of, vessels_of, movements_of, layout_off, no_sheet, header_checks, body_checks, read_number}
+use Rattle.std.specs.Simd.{first_chunks}
+use Rattle.names.proofs.NameLaws.{names_cut, names_taken}
+use Rattle.fields.proofs.ChunkLaws.{entries_cut}
 use Rattle.fields.proofs.LayoutLaws.{few_movements}
 use Rattle.std.proofs.lemmas.List.{take_rest}
 use Rattle.book.proofs.HeadLaws.{Openable, openable}
@@ -63,14 +67,27 @@ body_fits s n vessels movements e z ev em =
     let l = laid s n e z in
     (record { few_vessels = omega arith; few_movements = omega arith }, omega arith)
 
--- the ways out of `check_body`
-module _ (s : List ℕ) (vessels movements : ℕ) (off : Bool) (e : off ≡ names_off (names_in vessels (take (length s - header_size) (drop header_size s)))) where
+-- the ways out of `check_body`: the names and the movements are cut out of the sheet
+module _ (s : List ℕ) (vessels movements start : ℕ) (size : length s ≡ sheet_size vessels movements) (es : start ≡ name_start vessels) (names : List (List ℕ))
+    (cut : let part = take (start - header_size) (drop header_size s) in names ≡ first_chunks name_size (length part / name_size) part) (off : Bool) (e : off ≡ names_off names) where
   names_say : off ≡ names_off (names_in vessels (drop header_size s))
-  names_say = rw take_rest at e
+  names_say =
+      let behind = drop header_size s in
+      let width : start - header_size ≡ name_size * vessels = omega arith in
+      let long : name_size * vessels ≤ length behind = rw length-drop (omega arith) in
+      let whole : length (take (name_size * vessels) behind) ≡ name_size * vessels = rw length-take (omega arith) in
+      e ∙ ap names_off (rw width at cut ∙ names_cut vessels (take (name_size * vessels) behind) whole ∙ names_taken vessels behind long)
 
-  pub out_entries : (n : ℕ) → off ≡ false → n ≡ first (entries_checks (entry_checks vessels) (entries_in movements (take (length s - (entries_start vessels)) (drop (entries_start vessels) s))))
-      → n ≡ first (body_checks vessels movements s)
-  out_entries n q en = rw (← names_say, q) (rw take_rest at en)
+  pub out_names : off ≡ true → 17 ≡ first (body_checks vessels movements s)
+  out_names q = rw (← names_say, q)
+
+  pub out_entries : (n : ℕ) (entries : List (List ℕ)) → off ≡ false
+      → (let rest = take (length s - start) (drop start s) in entries ≡ first_chunks entry_size (length rest / entry_size) rest)
+      → n ≡ first (entries_checks (entry_checks vessels) (map entry_in entries)) → n ≡ first (body_checks vessels movements s)
+  out_entries n entries q found en =
+      let rest = drop (entries_start vessels) s in
+      let long : length rest ≡ entry_size * movements = rw length-drop (omega arith) in
+      rw (← names_say, q) (en ∙ ap (λ (es : List Entry). first (entries_checks (entry_checks vessels) es)) (rw (take_rest, es) at (ap (map entry_in) found) ∙ entries_cut movements rest long))
 
 -- the ways out of `Sheet::read`: the refusal of the header or of what lies behind it is the sheet's own
 pub not_read : {T : Type 0} (P : T → Type 0) (r : Result T Refusal) (why : Refusal) (n : ℕ) → IsErrAnd r (λ (other : Refusal). other ≡ why) → number_of why ≡ n

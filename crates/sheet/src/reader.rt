@@ -1,28 +1,31 @@
 // All checks of a sheet, in order; and a sheet that passed them, as a value.
-ghost use Rattle.std.specs.Prelude.{◌≡◌, ◌<◌, length, MatchResult};
+ghost use Rattle.std.specs.Prelude.{◌≡◌, ◌<◌, length, map, MatchResult};
 ghost use Rattle.refusal.specs.Numbers.{first};
 ghost use Rattle.refusal.specs.Refusals.{number_of, outcome_number};
+ghost use Rattle.fields.specs.Movements.{entry_in};
 ghost use Rattle.fields.specs.Layout.{sheet_size, Within};
-ghost use Rattle.sheet.specs.Sheet.{body_checks, movements_of, names_of, read_number};
+ghost use Rattle.sheet.specs.Sheet.{body_checks, entries_read, movements_of, names_of, read_number};
 ghost use Rattle.sheet.specs.Answers.{header_numbers, movement_at};
 
 use crate::answer::{Header, Movement};
 use crate::header::{check_header, header_numbers};
-use fields::layout::{HEADER_SIZE, name_start, sheet_size};
+use fields::layout::{ENTRY_SIZE, HEADER_SIZE, NAME_SIZE, name_start};
 use refusal::Refusal;
 use std::marker::Model;
 
 // The first check that what lies behind the header fails.
-#[tactic(auto, using(crate::proofs::ReadLaws::out_entries))]
+#[tactic(auto, using(crate::proofs::ReadLaws::out_names, crate::proofs::ReadLaws::out_entries))]
 fn check_body(sheet: &[u8], vessels: u32, movements: u32) -> Result<(), Refusal>
     requires { Within vessels movements × (length sheet.now ≡ sheet_size vessels movements) }
     ensures { outcome_number result ≡ first (body_checks vessels movements sheet.now) }
 {
-    if names::names_off(&sheet[HEADER_SIZE..], vessels as usize) {
+    let start = name_start(vessels);
+    let (names, _) = sheet[HEADER_SIZE..start].as_chunks::<NAME_SIZE>();
+    if names::names_off(names) {
         return Err(Refusal::Name);
     }
-    let start = name_start(vessels);
-    fields::entries::check_entries(&sheet[start..], movements as usize, vessels)
+    let (entries, _) = sheet[start..].as_chunks::<ENTRY_SIZE>();
+    fields::entries::check_entries(entries, vessels)
 }
 
 // A sheet that reads well: its bytes, which contracts see, and the numbers of their header. A type with a view and a lifetime cannot be
@@ -71,14 +74,21 @@ impl<'a> Sheet<'a> {
         &self.bytes[HEADER_SIZE..name_start(self.numbers.vessels)]
     }
 
+    // The movements, as the sheet has them.
+    #[tactic(auto, using(crate::proofs::AnswerLaws::names_end))]
+    fn entries(&self) -> &'a [[u8; ENTRY_SIZE]]
+        ensures { map entry_in result.now ≡ entries_read self.now }
+    {
+        let (entries, _) = self.bytes[name_start(self.numbers.vessels)..].as_chunks();
+        entries
+    }
+
     // The movement at an index.
-    #[tactic(auto, using(crate::proofs::AnswerLaws::entry_end))]
     pub fn movement(&self, index: u32) -> Movement
         requires { index < movements_of self.now }
         ensures { result ≡ movement_at self.now index }
     {
-        let at = sheet_size(self.numbers.vessels, index);
-        let e = fields::entries::read_entry(self.bytes, at);
+        let e = fields::entries::read_entry(&self.entries()[index as usize]);
         Movement {
             number: 0,
             source: e.source,

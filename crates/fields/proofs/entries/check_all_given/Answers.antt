@@ -7,8 +7,8 @@ use Rattle.fields.proofs.entries.check_all_given.Goals as goal
 pub returns-in_err-check_given : goal.returns-in_err-check_given
 returns-in_err-check_given c = search (rules, named_given, check_stop, outcomes, c.in_err-check_given.ensures)
 
-pub loop-i-preserved : goal.loop-i-preserved
-loop-i-preserved c = search (rules, named_given, check_turn)
+pub loop-five-preserved : goal.loop-five-preserved
+loop-five-preserved c = search (rules, named_given, check_turn)
 
 pub returns : goal.returns
 returns c = search (rules, check_end)

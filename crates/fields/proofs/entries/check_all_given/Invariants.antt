@@ -1,7 +1,9 @@
 -- The first check that the movements left fail is that of all.
-use Rattle.fields.specs.Movements.{given_size, given_in, given_checks}
-use Rattle.fields.proofs.EntryLaws.{Checked}
+use Rattle.std.proofs.Common.{◌≡◌, map, drop}
+use Rattle.refusal.specs.Numbers.{first}
+use Rattle.fields.specs.Movements.{given_in, given_checks, entries_checks}
 use Rattle.fields.proofs.entries.check_all_given.Given as goal
 
-abbrev pub invariant-loop-i : goal.invariant-loop-i
-invariant-loop-i l = Checked (given_checks l.vessels) given_size given_in l.count l.numbers l.i
+abbrev pub invariant-loop-five : goal.invariant-loop-five
+invariant-loop-five l =
+    first (entries_checks (given_checks l.vessels) (map given_in (drop l.five-index l.all))) ≡ first (entries_checks (given_checks l.vessels) (map given_in l.all))

@@ -7,8 +7,8 @@ use Rattle.fields.proofs.entries.check_entries.Goals as goal
 pub returns-in_err-check_entry : goal.returns-in_err-check_entry
 returns-in_err-check_entry c = search (rules, named_entry, check_stop, outcomes, c.in_err-check_entry.ensures)
 
-pub loop-i-preserved : goal.loop-i-preserved
-loop-i-preserved c = search (rules, named_entry, check_turn)
+pub loop-bytes-preserved : goal.loop-bytes-preserved
+loop-bytes-preserved c = search (rules, named_entry, check_turn)
 
 pub returns : goal.returns
 returns c = search (rules, check_end)

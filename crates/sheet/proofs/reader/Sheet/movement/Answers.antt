@@ -1,7 +1,9 @@
--- A sheet that reads well holds the movement.
-use Rattle.sheet.proofs.AnswerLaws.{entry_end}
-use Rattle.std.proofs.Common.{rules}
+-- The movement is among those that the sheet has, and what is read of it is the answer.
+use Rattle.sheet.proofs.AnswerLaws.{entry_there, entry_known}
 use Rattle.sheet.proofs.reader.Sheet.movement.Goals as goal
 
-pub read_entry-e-requires : goal.read_entry-e-requires
-read_entry-e-requires c = entry_end _ c.self.invariant.0 _ c.self.invariant.1 _ _ (search (rules, c.requires, c.self.view_is)) c.sheet_size-at.ensures
+pub bounds-entries-index : goal.bounds-entries-index
+bounds-entries-index c = entry_there c.args.self.now _ c.entries.ensures _ c.requires
+
+pub returns : goal.returns
+returns c = entry_known c.args.self.now _ c.entries.ensures _ c.requires _ c.read_entry-e.ensures.0
