@@ -57,10 +57,6 @@ laid s n e z =
       size = same_if _ _ c.1;
     }
 
--- a header that passes holds its 24 bytes
-pub header_holds : (s : List ℕ) (n k : ℕ) → n ≡ first (header_checks s) → n ≡ 0 → k ≤ header_size → k ≤ length s
-header_holds s n k e z h = let l = laid s n e z in omega arith
-
 pub body_fits : (s : List ℕ) (n vessels movements : ℕ) → n ≡ first (header_checks s) → n ≡ 0 → vessels ≡ vessels_of s → movements ≡ movements_of s
     → Within vessels movements × (length s ≡ sheet_size vessels movements)
 body_fits s n vessels movements e z ev em =

@@ -1,9 +1,9 @@
 // The header of a sheet: its mark, its numbers, and where its parts lie.
-ghost use Rattle.std.specs.Prelude.{◌≡◌, ◌≤◌, length};
+ghost use Rattle.std.specs.Prelude.{◌≡◌, ◌≤◌, length, MatchResult};
 ghost use Rattle.refusal.specs.Numbers.{first};
-ghost use Rattle.refusal.specs.Refusals.{outcome_number};
+ghost use Rattle.refusal.specs.Refusals.{number_of};
 ghost use Rattle.fields.specs.Layout.{header_size, Within};
-ghost use Rattle.sheet.specs.Sheet.{no_sheet, layout_off, field_checks, header_checks};
+ghost use Rattle.sheet.specs.Sheet.{no_sheet, layout_off, header_checks};
 ghost use Rattle.sheet.specs.Answers.{header_numbers};
 
 use crate::answer::Header;
@@ -15,7 +15,7 @@ use fields::layout::{
 use refusal::Refusal;
 
 // The numbers of a header.
-pub fn header_numbers(sheet: &[u8]) -> Header
+fn header_numbers(sheet: &[u8]) -> Header
     requires { header_size ≤ length sheet.now }
     ensures { result ≡ header_numbers sheet.now }
 {
@@ -47,12 +47,16 @@ fn layout_off(sheet: &[u8], vessels: u32, movements: u32) -> bool
     names_at != HEADER_SIZE || entries_at != start || length != size || sheet.len() != size
 }
 
-// The first check that the header's numbers fail.
-#[tactic(auto, using(crate::proofs::HeaderLaws::few_vessels, fields::proofs::LayoutLaws::few_movements))]
-fn check_fields(sheet: &[u8], header: Header) -> Result<(), Refusal>
-    requires { header_size ≤ length sheet.now }
-    ensures { outcome_number result ≡ first (field_checks header.rule header.vessels header.movements sheet.now) }
+// The numbers of a sheet's header, or the first check that the header fails.
+#[tactic(auto, using(crate::proofs::HeaderLaws::sheet_holds, crate::proofs::HeaderLaws::few_vessels, fields::proofs::LayoutLaws::few_movements))]
+pub fn read_header(sheet: &[u8]) -> Result<Header, Refusal>
+    ensures { MatchResult result (λ header. (header ≡ header_numbers sheet.now) × (first (header_checks sheet.now) ≡ 0))
+        (λ why. number_of why ≡ first (header_checks sheet.now)) }
 {
+    if no_sheet(sheet) {
+        return Err(Refusal::NoSheet);
+    }
+    let header = header_numbers(sheet);
     ledger::opening::check_opening(header.rule, header.vessels)?;
     if fields::layout::movements_off(header.movements as usize) {
         return Err(Refusal::Movements);
@@ -60,16 +64,5 @@ fn check_fields(sheet: &[u8], header: Header) -> Result<(), Refusal>
     if layout_off(sheet, header.vessels, header.movements) {
         return Err(Refusal::Layout);
     }
-    Ok(())
-}
-
-// The first check that the header fails.
-#[tactic(auto, using(crate::proofs::HeaderLaws::sheet_holds))]
-pub fn check_header(sheet: &[u8]) -> Result<(), Refusal>
-    ensures { outcome_number result ≡ first (header_checks sheet.now) }
-{
-    if no_sheet(sheet) {
-        return Err(Refusal::NoSheet);
-    }
-    check_fields(sheet, header_numbers(sheet))
+    Ok(header)
 }

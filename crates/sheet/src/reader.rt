@@ -8,7 +8,7 @@ ghost use Rattle.sheet.specs.Sheet.{body_checks, entries_read, movements_of, nam
 ghost use Rattle.sheet.specs.Answers.{header_numbers, movement_at};
 
 use crate::answer::{Header, Movement};
-use crate::header::{check_header, header_numbers};
+use crate::header::read_header;
 use fields::layout::{ENTRY_SIZE, HEADER_SIZE, NAME_SIZE, name_start};
 use refusal::Refusal;
 use std::marker::Model;
@@ -53,8 +53,7 @@ impl<'a> Sheet<'a> {
     pub fn read(bytes: &'a [u8]) -> Result<Self, Refusal>
         ensures { MatchResult result (λ sheet. (sheet ≡ bytes.now) × (read_number bytes.now ≡ 0)) (λ why. number_of why ≡ read_number bytes.now) }
     {
-        check_header(bytes)?;
-        let numbers = header_numbers(bytes);
+        let numbers = read_header(bytes)?;
         check_body(bytes, numbers.vessels, numbers.movements)?;
         Ok(Sheet { bytes, numbers })
     }
