@@ -1,12 +1,12 @@
 -- Laws of bytes put one behind the other: two runs of stores are one, a part written whole is a run, and a turn of each loop that puts bytes.
 -- Assumes nothing.
 use mathlib.Core.List.{flat_map}
-use Rattle.std.proofs.Common.{ℕ, zero, suc, ◌+◌, ◌-◌, ◌*◌, ◌/◌, ◌%◌, ◌<◌, ◌≤◌, add-zero, add-suc, suc-add, add_assoc, mul-suc, add-one, arith, ◌≡◌, refl, sym, ap, ◌∙◌, List, [], ◌∷◌, ◌++◌, append_assoc, append-nil, length, take, drop, set, drop_of_length-le, drop-drop, take_all}
-use Rattle.std.proofs.lemmas.List.{take_more_set}
+use Rattle.std.proofs.Common.{ℕ, zero, suc, ◌+◌, ◌-◌, ◌*◌, ◌/◌, ◌%◌, ◌<◌, ◌≤◌, add-zero, add-suc, suc-add, add_assoc, mul-suc, add-one, arith, ◌≡◌, refl, sym, ap, ◌∙◌, List, [], ◌∷◌, ◌++◌, append_assoc, append-nil, length, get_or, take, drop, set, drop_of_length-le, drop-drop, take_all}
+use Rattle.std.proofs.lemmas.List.{take_more_set, drop_more}
 use lib.Seq.{sets, sets-eq}
 use borrow.Rule.Slice.PartMut.{put_mid}
 use Rattle.fields.specs.Bytes.{bytes_of, groups}
-use Rattle.fields.proofs.GroupLaws.{group_at, next_group, length_groups}
+use Rattle.fields.proofs.GroupLaws.{group_at, length_groups}
 
 pub length_bytes : (w x : ℕ) → length (bytes_of w x) ≡ w
 unfolding bytes_of
@@ -55,20 +55,26 @@ number_put l items at part i width left value fits ep sized inv h =
     let size = length_bytes width value in
     part_put l items (bytes_of width value) at part (rw size fits) (ep ∙ sym size) (number_end items (bytes_of width value) i width left sized inv h)
 
--- the loop that puts what f makes of each group of a list, `size` numbers each
+-- the loop that puts what f makes of each item of a list, `size` numbers each
+module _ {A : Type 0} (f : A → List ℕ) (size : ℕ) (items : List A) (out goal : List ℕ) (at i : ℕ) where
+  pub item_turn : (after : List ℕ) (e : A) → i < length items → e ≡ get_or items i e → length (f e) ≡ size → after ≡ sets out (at + size * i) (f e)
+      → sets out (at + size * i) (flat_map f (drop i items)) ≡ goal → sets after (at + size * (i + 1)) (flat_map f (drop (i + 1) items)) ≡ goal
+  unfolding flat_map
+  item_turn after e h is sized ea inv =
+      let p : at + size * (i + 1) ≡ at + size * i + length (f e) = rw (sized, add-one, mul-suc, add_assoc) in
+      rw (ea, p, sets_append) (rw (drop_more items i e h, ← is) at inv)
+
+  pub item_end : length items ≤ i → sets out (at + size * i) (flat_map f (drop i items)) ≡ goal → out ≡ goal
+  unfolding flat_map
+  item_end h e = rw (drop_of_length-le items h) at e
+
+-- and of each group of a list, `width` numbers each
 module _ {A : Type 0} (f : A → List ℕ) (size width : ℕ) (make : List ℕ → A) (count : ℕ) (l out goal : List ℕ) (at i : ℕ) where
   pub each_turn : (after : List ℕ) (e : A) → i < count → e ≡ make (drop (width * i) l) → length (f e) ≡ size → after ≡ sets out (at + size * i) (f e)
       → sets out (at + size * i) (flat_map f (drop i (groups width make count l))) ≡ goal
       → sets after (at + size * (i + 1)) (flat_map f (drop (i + 1) (groups width make count l))) ≡ goal
-  unfolding flat_map
-  each_turn after e h is sized ea inv =
-      let es = groups width make count l in
-      let p : at + size * (i + 1) ≡ at + size * i + length (f e) = rw (sized, add-one, mul-suc, add_assoc) in
-      let next : drop i es ≡ e ∷ drop (i + 1) es = next_group width make count l i e h ∙ ap (λ (x : A). x ∷ drop (i + 1) es) (group_at width make count l i e h ∙ sym is) in
-      rw (ea, p, sets_append) (rw next at inv)
+  each_turn after e h is =
+      item_turn f size (groups width make count l) out goal at i after e (rw length_groups h) (is ∙ sym (group_at width make count l i e h))
 
   pub each_end : count ≤ i → sets out (at + size * i) (flat_map f (drop i (groups width make count l))) ≡ goal → out ≡ goal
-  unfolding flat_map
-  each_end h e =
-      let long : length (groups width make count l) ≤ i = rw length_groups h in
-      rw (drop_of_length-le (groups width make count l) long) at e
+  each_end h = item_end f size (groups width make count l) out goal at i (rw length_groups h)

@@ -1,24 +1,26 @@
 -- The movements, the header and the whole sheet, from parts put one behind the other. Assumes nothing.
-use Rattle.std.proofs.Common.{ℕ, ◌+◌, ◌*◌, ◌<◌, ◌≤◌, arith, ◌≡◌, refl, ◌∙◌, List, ◌++◌, length, drop, length-append}
+use Rattle.std.proofs.Common.{ℕ, ◌+◌, ◌*◌, ◌<◌, ◌≤◌, arith, ◌≡◌, refl, sym, ◌∙◌, List, [], ◌++◌, map, length, get_or, drop, length-append}
+use Rattle.std.proofs.lemmas.List.{get_or-map, length-map}
 use lib.Seq.{sets}
 use Rattle.fields.specs.declared.entries.Entry.{Entry}
-use Rattle.fields.specs.Movements.{given_size, entry_size, given_in, entries_given, entry_bytes, entries_bytes}
+use Rattle.fields.specs.Movements.{entry_size, given_in, entries_given, entry_bytes, entries_bytes}
 use Rattle.fields.specs.Layout.{mark, header_size, name_size, rule_at, names_at, entries_start}
-use Rattle.fields.proofs.PutLaws.{length_bytes, put_then, each_turn, each_end}
+use Rattle.fields.proofs.PutLaws.{length_bytes, put_then, item_turn, item_end}
 use Rattle.writing.specs.Writing.{count_given, count_bytes, layout_bytes, header_bytes, sheet_of}
 
 pub length_entry : (e : Entry) → length (entry_bytes e) ≡ entry_size
 length_entry e = simp (length-append, length_bytes)
 
 -- the loop that puts movements
-module _ (out goal numbers : List ℕ) (at i count : ℕ) where
-  pub entries_turn : (l : List ℕ) (e : Entry) → i < count → e ≡ given_in (drop (given_size * i) numbers) → l ≡ sets out (at + entry_size * i) (entry_bytes e)
-      → sets out (at + entry_size * i) (entries_bytes (drop i (entries_given count numbers))) ≡ goal
-      → sets l (at + entry_size * (i + 1)) (entries_bytes (drop (i + 1) (entries_given count numbers))) ≡ goal
-  entries_turn l e h is el inv = each_turn entry_bytes entry_size given_size given_in count numbers out goal at i l e h is (length_entry e) el inv
+module _ (given : List (List ℕ)) (out goal : List ℕ) (at i : ℕ) where
+  pub entries_turn : (l : List ℕ) (e : Entry) → i < length given → e ≡ given_in (get_or given i []) → l ≡ sets out (at + entry_size * i) (entry_bytes e)
+      → sets out (at + entry_size * i) (entries_bytes (drop i (map given_in given))) ≡ goal
+      → sets l (at + entry_size * (i + 1)) (entries_bytes (drop (i + 1) (map given_in given))) ≡ goal
+  entries_turn l e h is el inv =
+      item_turn entry_bytes entry_size (map given_in given) out goal at i l e (rw length-map h) (is ∙ sym (get_or-map given_in given i [] e h)) (length_entry e) el inv
 
-  pub entries_end : count ≤ i → sets out (at + entry_size * i) (entries_bytes (drop i (entries_given count numbers))) ≡ goal → out ≡ goal
-  entries_end h e = each_end entry_bytes entry_size given_size given_in count numbers out goal at i h e
+  pub entries_end : length given ≤ i → sets out (at + entry_size * i) (entries_bytes (drop i (map given_in given))) ≡ goal → out ≡ goal
+  entries_end h e = item_end entry_bytes entry_size (map given_in given) out goal at i (rw length-map h) e
 
 -- the header, and the whole sheet
 pub header_put : (l letters l₁ l₂ l₃ : List ℕ) (rule vessels movements : ℕ) → letters ≡ mark → l₁ ≡ sets l 0 letters

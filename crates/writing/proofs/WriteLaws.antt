@@ -1,6 +1,6 @@
 -- Laws of writing: what the checks tell once they are passed, and each way out. Assumes nothing.
 use mathlib.Core.List.{flat_map}
-use Rattle.std.proofs.Common.{ℕ, ◌+◌, ◌*◌, ◌%◌, ◌<◌, ◌≤◌, zero-add, arith, ◌≡◌, refl, sym, ◌∙◌, Bool, false, not, List, [], ◌∷◌, ◌++◌, ltb-false, lt-ltb, le-ltb, T, eqb, length, take, drop, length-append, take_at}
+use Rattle.std.proofs.Common.{ℕ, ◌+◌, ◌*◌, ◌/◌, ◌%◌, ◌<◌, ◌≤◌, zero-add, arith, ◌≡◌, refl, sym, ap, ◌∙◌, Bool, true, false, not, List, [], ◌∷◌, ◌++◌, ltb-false, lt-ltb, le-ltb, T, eqb, map, length, take, drop, length-append, take_at}
 use lib.Seq.{sets, sets-eq}
 use Rattle.refusal.specs.Numbers.{Check, ◌if◌, first}
 use Rattle.refusal.proofs.Numbers.{named, passed, neither, same_if, past, refuses, passes, passed_first, passed_second}
@@ -10,6 +10,8 @@ use Rattle.names.specs.Names.{names_in, names_off}
 use Rattle.fields.specs.Movements.{given_size, entry_size, given_in, entries_given, entries_bytes, given_checks, entries_checks}
 use Rattle.book.specs.Head.{open_checks}
 use Rattle.writing.specs.Writing.{count_given, given_off, count_checks, content_checks, room_check, write_number, sheet_of, written}
+use Rattle.std.specs.Simd.{first_chunks}
+use Rattle.names.proofs.NameLaws.{names_cut}
 use Rattle.book.proofs.HeadLaws.{Openable, openable}
 use Rattle.fields.proofs.LayoutLaws.{few_movements}
 use Rattle.fields.proofs.GroupLaws.{length_groups}
@@ -54,23 +56,34 @@ content_fits rule vessels n names numbers e z =
     let g = counted rule vessels n names numbers e z in
     (within g, g.named)
 
--- the ways out of `check_content`
-module _ (vessels movements room : ℕ) (names numbers : List ℕ) (off : Bool) (e : off ≡ names_off (names_in vessels names)) (f : off ≡ false)
-    (n : ℕ) (en : n ≡ first (entries_checks (given_checks vessels) (entries_given movements numbers))) where
-  abbrev es : List Check
-  es = entries_checks (given_checks vessels) (entries_given movements numbers)
+-- the ways out of `check_content`: the names and the movements are cut out of what is given
+module _ (vessels movements room : ℕ) (names numbers : List ℕ) (sized : length names ≡ name_size * vessels) (cut : List (List ℕ))
+    (these : cut ≡ first_chunks name_size (length names / name_size) names) (off : Bool) (e : off ≡ names_off cut) where
+  names_say : off ≡ names_off (names_in vessels names)
+  names_say = e ∙ ap names_off (these ∙ names_cut vessels names sized)
 
-  ok : T (named es)
-  ok = named_movements vessels (entries_given movements numbers)
+  pub out_name : off ≡ true → 17 ≡ first (content_checks vessels movements names numbers room)
+  out_name q = rw (← names_say, q)
 
-  pub out_movement : (n ≡ 0 → ⊥) → n ≡ first (content_checks vessels movements names numbers room)
-  out_movement h = rw (← e, f) (refuses es (room_check vessels movements room ∷ []) ok n en h)
+  module _ (f : off ≡ false) (given : List (List ℕ)) (are : map given_in given ≡ entries_given movements numbers)
+      (n : ℕ) (says : n ≡ first (entries_checks (given_checks vessels) (map given_in given))) where
+    abbrev es : List Check
+    es = entries_checks (given_checks vessels) (entries_given movements numbers)
 
-  pub out_room : n ≡ 0 → room < sheet_size vessels movements → 19 ≡ first (content_checks vessels movements names numbers room)
-  out_room z h = rw (← e, f) (passes es (room_check vessels movements room ∷ []) ok n 19 en z (rw (lt-ltb _ _ h)))
+    ok : T (named es)
+    ok = named_movements vessels (entries_given movements numbers)
 
-  pub out_all : n ≡ 0 → sheet_size vessels movements ≤ room → 0 ≡ first (content_checks vessels movements names numbers room)
-  out_all z h = rw (← e, f) (passes es (room_check vessels movements room ∷ []) ok n 0 en z (rw (le-ltb _ _ h)))
+    en : n ≡ first es
+    en = rw are at says
+
+    pub out_movement : (n ≡ 0 → ⊥) → n ≡ first (content_checks vessels movements names numbers room)
+    out_movement h = rw (← names_say, f) (refuses es (room_check vessels movements room ∷ []) ok n en h)
+
+    pub out_room : n ≡ 0 → room < sheet_size vessels movements → 19 ≡ first (content_checks vessels movements names numbers room)
+    out_room z h = rw (← names_say, f) (passes es (room_check vessels movements room ∷ []) ok n 19 en z (rw (lt-ltb _ _ h)))
+
+    pub out_all : n ≡ 0 → sheet_size vessels movements ≤ room → 0 ≡ first (content_checks vessels movements names numbers room)
+    out_all z h = rw (← names_say, f) (passes es (room_check vessels movements room ∷ []) ok n 0 en z (rw (le-ltb _ _ h)))
 
 -- What names, movements and room that pass their checks are.
 pub record Content (vessels movements : ℕ) (names numbers : List ℕ) (most : ℕ) : Type 0 where

@@ -1,10 +1,10 @@
 // Writing a sheet: its checks, in order, and its bytes from the front.
-ghost use Rattle.std.specs.Prelude.{◌≡◌, ◌≤◌, ◌+◌, ◌*◌, length};
+ghost use Rattle.std.specs.Prelude.{◌≡◌, ◌≤◌, ◌+◌, ◌*◌, length, map};
 ghost use Rattle.std.proofs.lemmas.List.Edits.{sets};
 ghost use Rattle.refusal.specs.Numbers.{first};
 ghost use Rattle.refusal.specs.Refusals.{outcome_number};
 ghost use Rattle.book.specs.Head.{most_vessels};
-ghost use Rattle.fields.specs.Movements.{entry_size, given_size, entry_bytes, entries_given, entries_bytes};
+ghost use Rattle.fields.specs.Movements.{entry_size, given_in, entries_given, entry_bytes, entries_bytes};
 ghost use Rattle.fields.specs.Layout.{name_size, header_size, rule_at, names_at, sheet_size, Within};
 ghost use Rattle.writing.specs.Writing.{count_given, count_bytes, layout_bytes, header_bytes, sheet_of};
 ghost use Rattle.writing.specs.Writing.{given_off, count_checks, content_checks, write_number};
@@ -27,12 +27,14 @@ pub struct Draft<'a> {
     pub numbers: &'a [u32],
 }
 
-impl Draft<'_> {
-    // How many movements the numbers hold.
-    fn movements(&self) -> usize
-        ensures { result ≡ count_given self.now.numbers.now }
+impl<'a> Draft<'a> {
+    // The movements given, by their numbers.
+    #[tactic(auto, using(fields::proofs::ChunkLaws::given_chunks))]
+    fn movements(&self) -> &'a [[u32; GIVEN_SIZE]]
+        ensures movements { map given_in result.now ≡ entries_given (count_given self.now.numbers.now) self.now.numbers.now }
+        ensures count { length result.now ≡ count_given self.now.numbers.now }
     {
-        self.numbers.len() / GIVEN_SIZE
+        self.numbers.as_chunks().0
     }
 
     // Whether the name bytes are not 8 for each vessel, or the numbers not 5 for each movement.
@@ -53,29 +55,32 @@ impl Draft<'_> {
         if self.is_off() {
             return Err(Refusal::Layout);
         }
-        if fields::layout::movements_off(self.movements()) {
+        if fields::layout::movements_off(self.movements().len()) {
             return Err(Refusal::Movements);
         }
         Ok(())
     }
 
     // The first check that the names, the movements and the room fail.
+    #[tactic(auto, using(crate::proofs::WriteLaws::out_name, crate::proofs::WriteLaws::out_room, crate::proofs::WriteLaws::out_all, crate::proofs::WriteLaws::out_movement, refusal::proofs::Refusals::outcomes))]
     fn check_content(&self, room: usize) -> Result<(), Refusal>
         requires { Within self.now.vessels (count_given self.now.numbers.now) × (length self.now.names.now ≡ name_size * self.now.vessels) }
         ensures { outcome_number result ≡ first (content_checks self.now.vessels (count_given self.now.numbers.now) self.now.names.now self.now.numbers.now room) }
     {
-        if names::names_off(self.names, self.vessels as usize) {
+        let (names, _) = self.names.as_chunks::<NAME_SIZE>();
+        if names::names_off(names) {
             return Err(Refusal::Name);
         }
         let movements = self.movements();
-        fields::entries::check_all_given(self.numbers, movements, self.vessels)?;
-        if room < sheet_size(self.vessels, movements as u32) {
+        fields::entries::check_all_given(movements, self.vessels)?;
+        if room < sheet_size(self.vessels, movements.len() as u32) {
             return Err(Refusal::OutputShort);
         }
         Ok(())
     }
 
     // The first check that what is to be written fails.
+    #[tactic(auto, using(crate::proofs::WriteLaws::out_counts, crate::proofs::WriteLaws::out_content, crate::proofs::WriteLaws::content_fits, refusal::proofs::Refusals::outcomes))]
     pub fn check(&self, room: usize) -> Result<(), Refusal>
         ensures { outcome_number result ≡ write_number self.now.rule self.now.vessels self.now.names.now self.now.numbers.now room }
     {
@@ -90,15 +95,15 @@ impl Draft<'_> {
             × (sheet_size self.now.vessels (count_given self.now.numbers.now) ≤ length out.old) }
         ensures { out.new ≡ sets out.old 0 (sheet_of self.now.rule self.now.vessels self.now.names.now self.now.numbers.now) }
     {
-        let count = self.movements();
+        let movements = self.movements();
         let header = Header {
             rule: self.rule,
             vessels: self.vessels,
-            movements: count as u32,
+            movements: movements.len() as u32,
         };
         put_header(out, header);
         put_bytes(out, HEADER_SIZE, self.names);
-        put_entries(out, name_start(self.vessels), self.numbers, count);
+        put_entries(out, name_start(self.vessels), movements);
     }
 }
 
@@ -132,7 +137,7 @@ fn put_header(out: &mut [u8], header: Header)
     put_layout(out, header);
 }
 
-// Puts a movement into the twelve bytes from `at` on.
+// Puts a movement into the twelve bytes from `at` on. Not into an array: std's mutable chunks tell nothing of what the slice ends as.
 fn put_entry(out: &mut [u8], at: usize, e: Entry)
     requires { at + entry_size ≤ length out.old }
     ensures { out.new ≡ sets out.old at (entry_bytes e) }
@@ -145,11 +150,11 @@ fn put_entry(out: &mut [u8], at: usize, e: Entry)
 }
 
 // Puts the movements given into the bytes from `at` on.
-fn put_entries(out: &mut [u8], at: usize, numbers: &[u32], count: usize)
-    requires { (given_size * count ≤ length numbers.now) × (at + entry_size * count ≤ length out.old) }
-    ensures { out.new ≡ sets out.old at (entries_bytes (entries_given count numbers.now)) }
+fn put_entries(out: &mut [u8], at: usize, movements: &[[u32; GIVEN_SIZE]])
+    requires { at + entry_size * length movements.now ≤ length out.old }
+    ensures { out.new ≡ sets out.old at (entries_bytes (map given_in movements.now)) }
 {
-    for i in 0..count {
-        put_entry(out, at + ENTRY_SIZE * i, given(numbers, GIVEN_SIZE * i));
+    for (i, five) in movements.iter().enumerate() {
+        put_entry(out, at + ENTRY_SIZE * i, given(five));
     }
 }
