@@ -5,7 +5,7 @@ ghost use Rattle.refusal.specs.Numbers.{first};
 ghost use Rattle.refusal.specs.Refusals.{outcome_number};
 ghost use Rattle.book.specs.Head.{most_vessels};
 ghost use Rattle.fields.specs.Movements.{entry_size, given_in, entries_given, entry_bytes, entries_bytes};
-ghost use Rattle.fields.specs.Layout.{name_size, header_size, rule_at, names_at, sheet_size, Within};
+ghost use Rattle.fields.specs.Layout.{name_size, rule_at, names_at, sheet_size, Within};
 ghost use Rattle.writing.specs.Writing.{count_given, count_bytes, layout_bytes, header_bytes, sheet_of};
 ghost use Rattle.writing.specs.Writing.{given_off, count_checks, content_checks, write_number};
 
@@ -101,14 +101,13 @@ impl<'a> Draft<'a> {
             vessels: self.vessels,
             movements: movements.len() as u32,
         };
-        put_header(out, header);
+        put_bytes(out, 0, &header_bytes(header));
         put_bytes(out, HEADER_SIZE, self.names);
         put_entries(out, name_start(self.vessels), movements);
     }
 }
 
-fn put_counts(out: &mut [u8], header: Header)
-    requires { header_size ≤ length out.old }
+fn put_counts(out: &mut [u8; HEADER_SIZE], header: Header)
     ensures { out.new ≡ sets out.old rule_at (count_bytes header.rule header.vessels header.movements) }
 {
     put_number(out, RULE_AT, 2, header.rule);
@@ -116,8 +115,8 @@ fn put_counts(out: &mut [u8], header: Header)
     put_number(out, MOVEMENTS_AT, 4, header.movements);
 }
 
-fn put_layout(out: &mut [u8], header: Header)
-    requires { (header_size ≤ length out.old) × Within header.vessels header.movements }
+fn put_layout(out: &mut [u8; HEADER_SIZE], header: Header)
+    requires { Within header.vessels header.movements }
     ensures { out.new ≡ sets out.old names_at (layout_bytes header.vessels header.movements) }
 {
     let start = name_start(header.vessels);
@@ -127,34 +126,36 @@ fn put_layout(out: &mut [u8], header: Header)
     put_number(out, LENGTH_AT, 4, size as u32);
 }
 
-#[tactic(auto, using(crate::proofs::SheetPut::header_put))]
-fn put_header(out: &mut [u8], header: Header)
-    requires { (header_size ≤ length out.old) × Within header.vessels header.movements }
-    ensures { out.new ≡ sets out.old 0 (header_bytes header.rule header.vessels header.movements) }
+// The bytes of a header.
+fn header_bytes(header: Header) -> [u8; HEADER_SIZE]
+    requires { Within header.vessels header.movements }
+    ensures { result ≡ header_bytes header.rule header.vessels header.movements }
 {
-    put_bytes(out, 0, &fields::layout::mark());
-    put_counts(out, header);
-    put_layout(out, header);
+    let mut bytes = [0; HEADER_SIZE];
+    put_bytes(&mut bytes, 0, &fields::layout::mark());
+    put_counts(&mut bytes, header);
+    put_layout(&mut bytes, header);
+    bytes
 }
 
-// Puts a movement into the twelve bytes from `at` on. Not into an array: std's mutable chunks tell nothing of what the slice ends as.
-fn put_entry(out: &mut [u8], at: usize, e: Entry)
-    requires { at + entry_size ≤ length out.old }
-    ensures { out.new ≡ sets out.old at (entry_bytes e) }
+// The bytes of a movement: of its vessels one each, of its age two.
+fn entry_bytes(e: Entry) -> [u8; ENTRY_SIZE]
+    ensures { result ≡ entry_bytes e }
 {
-    put_number(out, at, 1, e.source);
-    put_number(out, at + 1, 1, e.destination);
-    put_number(out, at + 2, 2, e.age);
-    put_number(out, at + 4, 4, e.minute);
-    put_number(out, at + 8, 4, e.weight);
+    let [s0, _, _, _] = e.source.to_le_bytes();
+    let [d0, _, _, _] = e.destination.to_le_bytes();
+    let [a0, a1, _, _] = e.age.to_le_bytes();
+    let [m0, m1, m2, m3] = e.minute.to_le_bytes();
+    let [w0, w1, w2, w3] = e.weight.to_le_bytes();
+    [s0, d0, a0, a1, m0, m1, m2, m3, w0, w1, w2, w3]
 }
 
-// Puts the movements given into the bytes from `at` on.
+// Puts the movements given into the bytes from `at` on. Not into arrays: std's mutable chunks tell nothing of what the slice ends as.
 fn put_entries(out: &mut [u8], at: usize, movements: &[[u32; GIVEN_SIZE]])
     requires { at + entry_size * length movements.now ≤ length out.old }
     ensures { out.new ≡ sets out.old at (entries_bytes (map given_in movements.now)) }
 {
     for (i, five) in movements.iter().enumerate() {
-        put_entry(out, at + ENTRY_SIZE * i, given(five));
+        put_bytes(out, at + ENTRY_SIZE * i, &entry_bytes(given(five)));
     }
 }
