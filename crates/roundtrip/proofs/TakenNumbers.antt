@@ -1,28 +1,41 @@
--- Laws of the numbers of a sheet's movements, taken into lent memory. Assumes nothing.
-use Rattle.std.proofs.Common.{ℕ, ◌+◌, ◌*◌, ◌<◌, ◌≤◌, zero-add, ◌≡◌, refl, ap, ◌∙◌, List, drop, drop-drop}
-use lib.Seq.{sets}
-use Rattle.fields.specs.Movements.{given_size, entry_size, entry_in, entry_numbers, numbers_in}
-use Rattle.fields.specs.Layout.{entries_start}
-use Rattle.fields.proofs.PutLaws.{each_turn, each_end}
+-- Laws of the numbers of a sheet's movements, taken one by one into memory for those of any sheet. Assumes nothing.
+use Rattle.std.proofs.Common.{ℕ, ◌+◌, ◌<◌, ◌≤◌, arith, ◌≡◌, refl, sym, ap, ◌∙◌, List, ◌++◌, length, length-set, map, set, take, drop, take_all, take-append-drop, drop-drop}
+use Rattle.std.proofs.lemmas.List.{drop-set-lt, map_more, take_more_set}
+use Rattle.fields.specs.Layout.{most_movements}
+use Rattle.fields.specs.Movements.{entry_size, entry_in, no_entry, entry_numbers}
+use Rattle.fields.proofs.GroupLaws.{length_groups}
 use Rattle.sheet.specs.declared.answer.Header.{Header}
 use Rattle.sheet.specs.declared.answer.Movement.{Movement}
-use Rattle.sheet.specs.Sheet.{vessels_of, movements_of, entries_read}
+use Rattle.sheet.specs.Sheet.{movements_of, entries_read, read_number}
 use Rattle.sheet.specs.Answers.{header_numbers, movement_at}
+use Rattle.sheet.proofs.ReadLaws.{good}
+use Rattle.sheet.proofs.AnswerLaws.{entry_of}
 use Rattle.roundtrip.specs.Rewriting.{movement_numbers}
 
--- the loop that takes the numbers of each movement
-module _ (s out goal : List ℕ) (i : ℕ) (header : Header) (told : header ≡ header_numbers s) where
-  pub numbers_turn : (after : List ℕ) (m : Movement) → i < header.movements → m ≡ movement_at s i → after ≡ sets out (given_size * i) (movement_numbers m)
-      → sets out (given_size * i) (numbers_in (drop i (entries_read s))) ≡ goal
-      → sets after (given_size * (i + 1)) (numbers_in (drop (i + 1) (entries_read s))) ≡ goal
-  numbers_turn after m h em ea inv =
-      let d = drop (entries_start (vessels_of s)) s in
-      let here = entry_in (drop (entry_size * i) d) in
-      let same : movement_numbers m ≡ entry_numbers here = rw (em, ← drop-drop (entry_size * i) (entries_start (vessels_of s)) s) in
-      let put : after ≡ sets out (0 + given_size * i) (entry_numbers here) =
-      ea ∙ ap (λ (l : List ℕ). sets out (given_size * i) l) same ∙ rw zero-add in
-      rw zero-add at (each_turn entry_numbers given_size entry_size entry_in (movements_of s) d out goal 0 i after here (rw told at h) refl refl put (rw zero-add inv))
+pub count : (s : List ℕ) → length (entries_read s) ≡ movements_of s
+count s = length_groups entry_size entry_in (movements_of s) _
 
-  pub numbers_end : header.movements ≤ i → sets out (given_size * i) (numbers_in (drop i (entries_read s))) ≡ goal → out ≡ goal
-  numbers_end h e =
-      each_end entry_numbers given_size entry_size entry_in (movements_of s) (drop (entries_start (vessels_of s)) s) out goal 0 i (rw told at h) (rw zero-add e)
+-- So many are taken, and the memory behind them is as it was.
+abbrev pub Taken : List ℕ → ℕ → List (List ℕ) → List (List ℕ) → Type 0
+Taken s i before taken = (length taken ≡ most_movements) × (take i taken ≡ map entry_numbers (take i (entries_read s))) × (drop i taken ≡ drop i before)
+
+module _ (s : List ℕ) (before taken : List (List ℕ)) (i : ℕ) (inv : Taken s i before taken)
+    (header : Header) (told : (header ≡ header_numbers s) × (read_number s ≡ 0)) where
+  pub there : i < header.movements → i < most_movements
+  there h = let l = good s _ refl told.1 in omega (arith, rw told.0 at h)
+
+  pub numbers_turn : (m : Movement) (five : List ℕ) → i < header.movements → m ≡ movement_at s i → five ≡ movement_numbers m → Taken s (i + 1) before (set taken i five)
+  numbers_turn m five h em ef =
+      let inside : i < movements_of s = rw told.0 at h in
+      let same : five ≡ entry_numbers _ = ef ∙ ap movement_numbers (em ∙ entry_of s i inside) in
+      let known : i < length (entries_read s) = rw count inside in (
+        length-set taken i five ∙ inv.0,
+        take_more_set taken i five (rw inv.0 (there h)) ∙ rw (inv.1, same) (sym (map_more entry_numbers (entries_read s) i no_entry known)),
+        drop-set-lt (i + 1) taken i five (omega arith) ∙ sym (drop-drop 1 i taken) ∙ ap (drop 1) inv.2 ∙ drop-drop 1 i before,
+      )
+
+  pub numbers_end : i ≡ header.movements → taken ≡ map entry_numbers (entries_read s) ++ drop (movements_of s) before
+  numbers_end e =
+      let end : i ≡ movements_of s = e ∙ rw told.0 in
+      let known : length (entries_read s) ≤ i = rw count (omega (arith, end)) in
+      sym (take-append-drop i taken) ∙ rw (inv.1, inv.2, take_all i (entries_read s) known, end)

@@ -1,41 +1,36 @@
 // The round trip of a movement sheet: what was read is written again. proofs/RoundTrip.antt has it of both ways.
 #![tactic(auto)]
 
-ghost use Rattle.std.specs.Prelude.{◌≡◌, ◌≤◌, ◌+◌, ◌*◌, length};
-ghost use Rattle.std.proofs.lemmas.List.Edits.{sets};
+ghost use Rattle.std.specs.Prelude.{◌≡◌, ◌++◌, length, map, drop};
 ghost use Rattle.refusal.specs.Refusals.{outcome_number};
-ghost use Rattle.fields.specs.Movements.{given_size};
-ghost use Rattle.sheet.specs.Sheet.{movements_of};
-ghost use Rattle.roundtrip.specs.Rewriting.{movement_numbers, numbers_of, rewrite_number, rewritten};
+ghost use Rattle.fields.specs.Movements.{entry_numbers};
+ghost use Rattle.sheet.specs.Sheet.{movements_of, entries_read};
+ghost use Rattle.roundtrip.specs.Rewriting.{movement_numbers, rewrite_number, rewritten};
 
 use fields::layout::{GIVEN_SIZE, MOST_MOVEMENTS};
 use refusal::Refusal;
 use sheet::Sheet;
 use sheet::answer::Movement;
 
-// Puts the five numbers of a movement from `at` on.
-#[tactic(auto, using(fields::proofs::PutLaws::part_put))]
-fn put_movement(numbers: &mut [u32], at: usize, m: Movement)
-    requires { at + given_size ≤ length numbers.old }
-    ensures { numbers.new ≡ sets numbers.old at (movement_numbers m) }
+// The numbers of a movement, as the writer is given them.
+fn movement_numbers(m: Movement) -> [u32; GIVEN_SIZE]
+    ensures { result ≡ movement_numbers m }
 {
-    let five = [
+    [
         m.source,
         m.destination,
         m.minute,
         m.weight,
         u32::from(m.age),
-    ];
-    numbers[at..at + GIVEN_SIZE].copy_from_slice(&five);
+    ]
 }
 
-// Puts the numbers of all movements of a sheet at the front.
-fn take_numbers(sheet: &Sheet, numbers: &mut [u32])
-    requires { given_size * movements_of sheet.now ≤ length numbers.old }
-    ensures { numbers.new ≡ sets numbers.old 0 (numbers_of sheet.now) }
+// Takes the numbers of each movement of a sheet: there is room for those of any.
+fn take_numbers(sheet: &Sheet, taken: &mut [[u32; GIVEN_SIZE]; MOST_MOVEMENTS])
+    ensures { taken.new ≡ map entry_numbers (entries_read sheet.now) ++ drop (movements_of sheet.now) taken.old }
 {
     for i in 0..sheet.header().movements {
-        put_movement(numbers, GIVEN_SIZE * (i as usize), sheet.movement(i));
+        taken[i as usize] = movement_numbers(sheet.movement(i));
     }
 }
 
@@ -46,14 +41,8 @@ pub fn rewrite(sheet: &[u8], out: &mut [u8]) -> Result<(), Refusal>
 {
     let known = Sheet::read(sheet)?;
     let header = known.header();
-    let mut room = [0u32; GIVEN_SIZE * MOST_MOVEMENTS];
-    take_numbers(&known, &mut room);
-    let count = GIVEN_SIZE * (header.movements as usize);
-    writing::try_write(
-        header.rule,
-        header.vessels,
-        known.names(),
-        &room[..count],
-        out,
-    )
+    let mut taken = [[0u32; GIVEN_SIZE]; MOST_MOVEMENTS];
+    take_numbers(&known, &mut taken);
+    let given = taken[..header.movements as usize].as_flattened();
+    writing::try_write(header.rule, header.vessels, known.names(), given, out)
 }

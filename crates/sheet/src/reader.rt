@@ -58,9 +58,9 @@ impl<'a> Sheet<'a> {
         Ok(Sheet { bytes, numbers })
     }
 
-    // The rule, the count of vessels and the count of movements.
+    // The rule, the count of vessels and the count of movements; a sheet is one that reads well.
     pub fn header(&self) -> Header
-        ensures { result ≡ header_numbers self.now }
+        ensures { (result ≡ header_numbers self.now) × (read_number self.now ≡ 0) }
     {
         self.numbers
     }

@@ -10,4 +10,4 @@ pub returns-in-Err : goal.returns-in-Err
 returns-in-Err c = search (rules, going_refused)
 
 pub returns : goal.returns
-returns c = going_end _ _ _ _ _ _ _ c.loop-i.invariant _ c.header-movements.ensures (search rules)
+returns c = going_end _ _ _ _ _ _ _ c.loop-i.invariant _ c.header-movements.ensures.0 (search rules)

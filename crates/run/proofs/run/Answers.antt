@@ -7,7 +7,7 @@ pub returns-in-Err : goal.returns-in-Err
 returns-in-Err c = search (rules, run_refused, c.in-Err.ensures)
 
 pub make_all-requires : goal.make_all-requires
-make_all-requires c = run_ready _ _ _ c.in-Ok.ensures _ c.header-header.ensures _ c.empty_head-fresh.ensures
+make_all-requires c = run_ready _ _ _ c.in-Ok.ensures _ c.header-header.ensures.0 _ c.empty_head-fresh.ensures
 
 pub returns-in-Ok : goal.returns-in-Ok
-returns-in-Ok c = run_whole _ _ _ c.in-Ok.ensures _ c.header-header.ensures _ c.empty_head-fresh.ensures _ _ c.make_all.ensures
+returns-in-Ok c = run_whole _ _ _ c.in-Ok.ensures _ c.header-header.ensures.0 _ c.empty_head-fresh.ensures _ _ c.make_all.ensures
