@@ -9,10 +9,11 @@ use Rattle.table.proofs.Table.{length_pieces}
 use Rattle.picking.specs.declared.selection.Order.{Order}
 use Rattle.picking.specs.declared.plan.Plan.{Plan}
 use Rattle.moving.specs.declared.Applied.{Applied}
+use Rattle.moving.specs.declared.apply.Withdrawal.{Withdrawal}
 use Rattle.taking.specs.declared.Move.{Move}
 use Rattle.taking.specs.Taking.{Taken, handed, taken}
 use Rattle.picking.specs.Plan.{at_key, in_order, count_of, halt, plan_from, splits, lacking, taken_by, planned}
-use Rattle.moving.specs.Applied.{full, accepted, applied, table_left, lifted_places, Ready, Moves}
+use Rattle.moving.specs.Applied.{full, accepted, applied, table_left, Ready, Moves}
 use Rattle.picking.specs.Ordering.{Ordered}
 use Rattle.moving.specs.Parts.{Room, Applicable, Applies}
 use Rattle.picking.proofs.Keys.{length_in_order}
@@ -99,8 +100,12 @@ module _ {n places rule : ℕ} {m : Move} {t : List ℕ} (ready : Ready n places
       free : full places m taking ≡ false
       free = due ∙ sym is ∙ e
 
-      pub move_ready : (l : List ℕ) → 4 * lifted_places ≤ length l → Room n r.whole o t l × Applicable n m o r t
-      move_ready l above =
+      -- the plan, as a withdrawal
+      abbrev w : Withdrawal
+      w = record { count = n; order = o; plan = r; asked = m }
+
+      pub move_ready : Room w t × Applicable w t
+      move_ready =
           let h : length (handed m taking) ≤ places = ltb-false _ _ free in
           let f : 4 * length (handed m taking) ≤ length t = omega (arith, ready.room) in (
             record {
@@ -108,18 +113,16 @@ module _ {n places rule : ℕ} {m : Move} {t : List ℕ} (ready : Ready n places
               pieces = omega (arith, ready.pieces, ready.room);
               goes = whole_most;
               order = omega (arith, ordered.most, ap length read_is, length_pieces n t, ready.pieces, ready.most);
-              above = above;
             },
             record { rest = rw by_plan at rest; fits = rw by_plan at f },
           )
 
-      pub move_applied : {t' : List ℕ} {a : Applied} → Applies n m o r t t' a
-          → Moves n places rule m t t' (Some a)
+      pub move_applied : {t' : List ℕ} {a : Applied} → Applies w t t' a → Moves n places rule m t t' (Some a)
       unfolding applied table_left
       move_applied {a = a} done =
-          let v = rw length_order at (by_next (splits r.left) (min 1 r.left) (λ k ks. refl) r.whole ks) in
-          let w = rw length_order at (by_next (lacking r.left) 0 (λ k ks. refl) r.whole ks) in
-          let e : a ≡ accepted m taking = done.answers ∙ rw (← v, ← w) (ap (accepted m) (sym by_plan)) in
+          let split = rw length_order at (by_next (splits r.left) (min 1 r.left) (λ k ks. refl) r.whole ks) in
+          let born = rw length_order at (by_next (lacking r.left) 0 (λ k ks. refl) r.whole ks) in
+          let e : a ≡ accepted m taking = done.answers ∙ rw (← split, ← born) (ap (accepted m) (sym by_plan)) in
           record {
             answer = rw (free, e);
             table = done.stands ∙ sym (rw free (ap (λ (z : Taken). lay (handed m z) t) by_plan));

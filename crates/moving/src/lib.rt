@@ -6,6 +6,7 @@ ghost use Rattle.std.specs.Prelude.{◌≡◌};
 ghost use Rattle.moving.specs.Applied.{Ready, Moves};
 ghost use Rattle.moving.specs.Workspace.{blank};
 
+use apply::Withdrawal;
 use table::reading::Pieces;
 use taking::Move;
 
@@ -76,5 +77,11 @@ pub fn move_pieces(
     if plan.is_full(n, places) {
         return None;
     }
-    Some(apply::apply(table, n, order, plan, m, &mut work.lifted))
+    let withdrawal = Withdrawal {
+        count: n,
+        order,
+        plan,
+        asked: m,
+    };
+    Some(withdrawal.apply(table, &mut work.lifted))
 }

@@ -13,7 +13,7 @@ returns-then-is_full c = search (rules, move_refused)
 
 pub apply-requires : goal.apply-requires
 apply-requires c =
-    move_ready c.requires c.of-pieces.ensures c.picking_order-order.ensures c.plan_of-plan.ensures c.is_full.ensures c.if-is_full.false c.args.work.now.lifted (omega arith)
+    move_ready c.requires c.of-pieces.ensures c.picking_order-order.ensures c.plan_of-plan.ensures c.is_full.ensures c.if-is_full.false
 
 pub returns : goal.returns
 returns c =
