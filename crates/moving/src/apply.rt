@@ -32,6 +32,7 @@ impl<'a> Withdrawal<'a> {
     }
 
     // The pieces that go whole are lifted.
+    #[tactic(auto, unfolding(table::specs::Table::pieces_of))]
     fn lift(self, table: &mut [u32], lifted: &mut [u32; LIFTED])
         requires { Room self table.old }
         ensures { Lifts self.entry table.old table.new lifted.new }

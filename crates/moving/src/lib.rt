@@ -54,6 +54,7 @@ impl Workspace {
 
 // Moves the weight from source to destination under the rule, and says what was done. If the pieces afterwards would exceed the
 // places, the table is not written and the answer is `None`.
+#[tactic(auto, using(table::proofs::Table::length_pieces))]
 pub fn move_pieces(
     table: &mut [u32],
     n: usize,
