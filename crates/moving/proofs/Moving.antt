@@ -1,18 +1,19 @@
 -- A transfer whole: the order and its plan give what `taken` says, so the plan tells whether there is room, and applying it gives
 -- the answer and the table.
 -- Assumes nothing.
-use Rattle.std.proofs.Common.{◌≡◌, refl, sym, ap, ◌∙◌, ◌≢◌, Bool, true, false, cond, None, Some, List, [], ◌∷◌, ℕ, suc, ◌+◌, ◌-◌, ◌*◌, ◌≤◌, ◌<◌, min, arith, leb, ltb, eqb, length, drop, drop_of_length-le, drop-cons, leb-true, leb-false, ltb-true, ltb-false, eqb-true, lt-ltb, le-ltb}
-use borrow.Author.Tests.{eqb-false}
+use Rattle.std.proofs.Common.{◌≡◌, refl, sym, ap, ◌∙◌, Bool, true, false, cond, None, Some, List, [], ◌∷◌, ℕ, suc, ◌+◌, ◌-◌, ◌*◌, ◌≤◌, min, arith, leb, ltb, eqb, length, get_or, drop, drop_of_length-le, drop-cons, ltb-false}
+use Rattle.std.proofs.lemmas.Bool.Decides.{nat_tests}
 use Rattle.table.specs.declared.Piece.{Piece}
 use Rattle.table.specs.Table.{most_places, pieces_of, lay}
 use Rattle.table.proofs.Table.{length_pieces}
 use Rattle.picking.specs.declared.selection.Order.{Order}
 use Rattle.picking.specs.declared.plan.Plan.{Plan}
 use Rattle.moving.specs.declared.Applied.{Applied}
+use Rattle.moving.specs.declared.apply.Withdrawal.{Withdrawal}
 use Rattle.taking.specs.declared.Move.{Move}
 use Rattle.taking.specs.Taking.{Taken, handed, taken}
-use Rattle.picking.specs.Plan.{at_key, in_order, count_of, halt, plan_from, splits, lacking, taken_by, planned}
-use Rattle.moving.specs.Applied.{full, accepted, applied, table_left, lifted_places, Ready, Moves}
+use Rattle.picking.specs.Plan.{at_key, in_order, count_of, plan_from, splits, lacking, taken_by, planned}
+use Rattle.moving.specs.Applied.{full, accepted, applied, table_left, Ready, Moves}
 use Rattle.picking.specs.Ordering.{Ordered}
 use Rattle.moving.specs.Parts.{Room, Applicable, Applies}
 use Rattle.picking.proofs.Keys.{length_in_order}
@@ -24,15 +25,7 @@ use Rattle.taking.proofs.Handed.{handed_length}
 plan_most : (ks : List ℕ) (c want : ℕ) (ps : List Piece) → (plan_from c ks want ps).whole ≤ c + length ks
 unfolding plan_from
 plan_most [] c want ps = omega arith
-plan_most (k ∷ ks) c want ps = go (eqb want 0) (leb w want) _ (plan_most ks (suc c) (want - w) ps)
-  where
-    w : ℕ
-    w = (at_key ps k).weight
-
-    go : (u t : Bool) (r : Plan) → r.whole ≤ suc c + length ks → (cond u (halt c want) (cond t r (halt c want))).whole ≤ c + suc (length ks)
-    go true t r e = omega arith
-    go false true r e = omega arith
-    go false false r e = omega arith
+plan_most (k ∷ ks) c want ps = grind (arith, nat_tests, plan_most ks (suc c) (want - (at_key ps k).weight) ps)
 
 -- what follows the whole ones is a split or a birth
 one_of : (w : ℕ) (ks : List ℕ) → splits w ks + min 1 (lacking w ks) ≡ min 1 w
@@ -42,11 +35,7 @@ one_of w (k ∷ ks) = omega arith
 -- a number that depends on whether a key is left after c of them
 by_next : (f : List ℕ → ℕ) (a : ℕ) → ((k : ℕ) (ks : List ℕ) → f (k ∷ ks) ≡ a) → (c : ℕ) (ks : List ℕ)
     → f (drop c ks) ≡ cond (ltb c (length ks)) a (f [])
-by_next f a h c ks = go (ltb c (length ks)) refl
-  where
-    go : (t : Bool) → ltb c (length ks) ≡ t → f (drop c ks) ≡ cond t a (f [])
-    go true e = ap f (drop-cons ks c 0 (ltb-true _ _ e)) ∙ h _ _
-    go false e = ap f (drop_of_length-le ks {i = c} (ltb-false _ _ e))
+by_next f a h c ks = grind (arith, nat_tests, drop-cons ks c 0, drop_of_length-le ks {i = c}, h (get_or ks c 0) (drop (suc c) ks))
 
 module _ {n places rule : ℕ} {m : Move} {t : List ℕ} (ready : Ready n places m t)
     {read : List Piece} (read_is : read ≡ pieces_of n t)
@@ -83,12 +72,7 @@ module _ {n places rule : ℕ} {m : Move} {t : List ℕ} (ready : Ready n places
 
   -- a place more is wanted where something is left after the whole ones
   due : full places m taking ≡ cond (eqb r.left 0) false (leb places n)
-  due = rw size (go (eqb r.left 0) refl (leb places n) refl)
-    where
-      go : (b : Bool) → eqb r.left 0 ≡ b → (c : Bool) → leb places n ≡ c → ltb places (n + min 1 r.left) ≡ cond b false c
-      go true e c f = let z : r.left ≡ 0 = eqb-true _ _ e in le-ltb places (n + min 1 r.left) (omega (arith, ready.pieces))
-      go false e true f = let z : r.left ≢ 0 = eqb-false _ _ e in let g : places ≤ n = leb-true _ _ f in lt-ltb places (n + min 1 r.left) (omega arith)
-      go false e false f = let g : n < places = leb-false _ _ f in le-ltb places (n + min 1 r.left) (omega arith)
+  due = rw size (grind (arith, nat_tests, ready.pieces))
 
   module _ {b : Bool} (is : b ≡ cond (eqb r.left 0) false (leb places n)) where
     pub move_refused : b ≡ true → Moves n places rule m t t None
@@ -99,27 +83,30 @@ module _ {n places rule : ℕ} {m : Move} {t : List ℕ} (ready : Ready n places
       free : full places m taking ≡ false
       free = due ∙ sym is ∙ e
 
-      pub move_ready : (l : List ℕ) → 4 * lifted_places ≤ length l → Room n r.whole o t l × Applicable n m o r t
-      move_ready l above =
-          let h : length (handed m taking) ≤ places = ltb-false _ _ free in
-          let f : 4 * length (handed m taking) ≤ length t = omega (arith, ready.room) in (
-            record {
-              places = omega (arith, ready.pieces, ready.most);
-              pieces = omega (arith, ready.pieces, ready.room);
-              goes = whole_most;
-              order = omega (arith, ordered.most, ap length read_is, length_pieces n t, ready.pieces, ready.most);
-              above = above;
-            },
-            record { rest = rw by_plan at rest; fits = rw by_plan at f },
-          )
+      -- the plan, as a withdrawal
+      abbrev w : Withdrawal
+      w = record { count = n; order = o; plan = r; asked = m }
 
-      pub move_applied : {t' : List ℕ} {a : Applied} → Applies n m o r t t' a
-          → Moves n places rule m t t' (Some a)
+      pub move_room : Room w t
+      move_room = record {
+        places = omega (arith, ready.pieces, ready.most);
+        pieces = omega (arith, ready.pieces, ready.room);
+        goes = whole_most;
+        order = omega (arith, ordered.most, ap length read_is, length_pieces n t, ready.pieces, ready.most);
+      }
+
+      pub move_applicable : Applicable w t
+      move_applicable =
+          let h : length (handed m taking) ≤ places = ltb-false _ _ free in
+          let f : 4 * length (handed m taking) ≤ length t = omega (arith, ready.room) in
+          record { rest = rw by_plan at rest; fits = rw by_plan at f }
+
+      pub move_applied : {t' : List ℕ} {a : Applied} → Applies w t t' a → Moves n places rule m t t' (Some a)
       unfolding applied table_left
       move_applied {a = a} done =
-          let v = rw length_order at (by_next (splits r.left) (min 1 r.left) (λ k ks. refl) r.whole ks) in
-          let w = rw length_order at (by_next (lacking r.left) 0 (λ k ks. refl) r.whole ks) in
-          let e : a ≡ accepted m taking = done.answers ∙ rw (← v, ← w) (ap (accepted m) (sym by_plan)) in
+          let split = rw length_order at (by_next (splits r.left) (min 1 r.left) (λ k ks. refl) r.whole ks) in
+          let born = rw length_order at (by_next (lacking r.left) 0 (λ k ks. refl) r.whole ks) in
+          let e : a ≡ accepted m taking = done.answers ∙ rw (← split, ← born) (ap (accepted m) (sym by_plan)) in
           record {
             answer = rw (free, e);
             table = done.stands ∙ sym (rw free (ap (λ (z : Taken). lay (handed m z) t) by_plan));

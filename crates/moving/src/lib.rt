@@ -6,6 +6,7 @@ ghost use Rattle.std.specs.Prelude.{◌≡◌};
 ghost use Rattle.moving.specs.Applied.{Ready, Moves};
 ghost use Rattle.moving.specs.Workspace.{blank};
 
+use apply::Withdrawal;
 use table::reading::Pieces;
 use taking::Move;
 
@@ -53,6 +54,7 @@ impl Workspace {
 
 // Moves the weight from source to destination under the rule, and says what was done. If the pieces afterwards would exceed the
 // places, the table is not written and the answer is `None`.
+#[tactic(auto, using(table::proofs::Table::length_pieces))]
 pub fn move_pieces(
     table: &mut [u32],
     n: usize,
@@ -76,5 +78,11 @@ pub fn move_pieces(
     if plan.is_full(n, places) {
         return None;
     }
-    Some(apply::apply(table, n, order, plan, m, &mut work.lifted))
+    let withdrawal = Withdrawal {
+        count: n,
+        order,
+        plan,
+        asked: m,
+    };
+    Some(withdrawal.apply(table, &mut work.lifted))
 }
