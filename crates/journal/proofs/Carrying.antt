@@ -1,14 +1,14 @@
 -- Calls carried out in turn from numbers: which call the numbers are, the loop by what is left, and that what is left is the journal of
 -- the calls, so that demand 3 holds of it.
 -- Assumes nothing.
-use Rattle.std.proofs.Common.{◌≡◌, refl, sym, ap, ◌∙◌, Bool, true, false, cond, List, [], ◌∷◌, ◌++◌, append_assoc, append-nil, ℕ, zero, suc, ◌+◌, ◌-◌, ◌*◌, ◌≤◌, ◌<◌, add-one, arith, length, set, take, drop, length-set, take-append-drop, drop-drop, take-suc-set, drop-set-lt}
-use Rattle.std.proofs.lemmas.List.{take_rest}
+use Rattle.std.proofs.Common.{◌≡◌, refl, sym, ap, ◌∙◌, Bool, true, false, cond, List, [], ◌∷◌, ◌++◌, append_assoc, append-nil, ℕ, zero, suc, ◌+◌, ◌/◌, min, ◌≤◌, ◌<◌, add-one, arith, length, get_or, set, take, drop, length-set, take-append-drop, drop-drop, drop-cons, drop_of_length-le, take-suc-set, drop-set-lt}
+use Rattle.std.specs.List.{list_any}
 use Rattle.refusal.specs.Numbers.{◌if◌, first}
 use Rattle.refusal.specs.declared.Refusal.{Refusal}
 use Rattle.refusal.specs.Refusals.{number_of}
 use Rattle.refusal.proofs.Numbers.{refuses, passes, passed_first, passed_second}
 use Rattle.refusal.proofs.Refusals.{some_number}
-use Rattle.std.specs.Prelude.{Result, Ok}
+use Rattle.std.specs.Prelude.{Ok}
 use Rattle.book.specs.declared.Head.{Head}
 use Rattle.book.specs.declared.Reply.{Reply}
 use Rattle.book.specs.Head.{empty_head, not_opened, open_checks, opening}
@@ -17,53 +17,46 @@ use Rattle.book.specs.Calls.{ask}
 use Rattle.book.specs.Memory.{call_on}
 use Rattle.book.specs.Lists.{calls_on}
 use Rattle.reports.specs.Asking.{Asks}
-use Rattle.journal.specs.Carried.{call_size, call_in, ages_off, room_left, Makes, Carried, carried, MakesAll, calls_in, count_calls, carry_number, CarriesOut}
+use Rattle.journal.specs.Carried.{call_size, call_in, age_off, room_left, Makes, Carried, carried, all_carried, MakesAll, calls_in, count_calls, carry_number, CarriesOut}
 use Rattle.reports.proofs.Asked.{asked_nothing}
 use Rattle.book.proofs.HeadLaws.{open_accepted}
 use Rattle.book.proofs.Lists.{demand_3}
 use Rattle.journal.specs.declared.Call as Read
 use Rattle.journal.specs.Reading.{call_read, called}
-use Rattle.journal.proofs.Reading.{rest, read_on, called_is}
+use Rattle.journal.proofs.Reading.{read_on, called_is}
+use Rattle.journal.proofs.Grouped.{groups, first_groups, count_groups, grouped_ages, all_made}
 
 -- a report as a call
-pub made_report : (h : Head) (t room : List ℕ) (q : Report) (z : Reply) (r' : List ℕ) → Asks h q t room r' z → Makes h (ask q room) t room t r' z
-made_report h t room q z r' p = record { answer = p.answer; table = sym (asked_nothing h t q room).1; room = p.room }
+pub made_report : {h : Head} {t room r' : List ℕ} {q : Report} {z : Reply} → Asks h q t room r' z → Makes h (ask q room) t room t r' z
+made_report {h = h} {t = t} {room = room} {q = q} p = record { answer = p.answer; table = sym (asked_nothing h t q room).1; room = p.room }
 
--- Where carrying out stands before call i of n: the numbers so far and those that are left make the whole, and so do head, table and room.
-pub record Going (n : ℕ) (l : List ℕ) (h₀ : Head) (t₀ a₀ r₀ : List ℕ) (h : Head) (t a r : List ℕ) (i : ℕ) : Type 0 where
-  pub inside : i ≤ n
-  pub numbers : take i a ++ (carried (n - i) (drop (call_size * i) l) h t r).numbers ≡ (carried n l h₀ t₀ r₀).numbers
-  pub head : (carried (n - i) (drop (call_size * i) l) h t r).head ≡ (carried n l h₀ t₀ r₀).head
-  pub table : (carried (n - i) (drop (call_size * i) l) h t r).table ≡ (carried n l h₀ t₀ r₀).table
-  pub room : (carried (n - i) (drop (call_size * i) l) h t r).room ≡ (carried n l h₀ t₀ r₀).room
+-- Where carrying out stands before call i: the numbers so far and those that are left make the whole, and so do head, table and room.
+pub record Going (l : List (List ℕ)) (h₀ : Head) (t₀ a₀ r₀ : List ℕ) (h : Head) (t a r : List ℕ) (i : ℕ) : Type 0 where
+  pub numbers : take i a ++ (all_carried (drop i l) h t r).numbers ≡ (all_carried l h₀ t₀ r₀).numbers
+  pub head : (all_carried (drop i l) h t r).head ≡ (all_carried l h₀ t₀ r₀).head
+  pub table : (all_carried (drop i l) h t r).table ≡ (all_carried l h₀ t₀ r₀).table
+  pub room : (all_carried (drop i l) h t r).room ≡ (all_carried l h₀ t₀ r₀).room
   pub behind : drop i a ≡ drop i a₀
-  pub table_length : length t ≡ length t₀
   pub answers_length : length a ≡ length a₀
-  pub room_length : length r ≡ length r₀
 
-module _ (n : ℕ) (l : List ℕ) (h₀ : Head) (t₀ a₀ r₀ : List ℕ) (h : Head) (t a r : List ℕ) (i : ℕ) (g : Going n l h₀ t₀ a₀ r₀ h t a r i) where
+module _ {l : List (List ℕ)} {h₀ : Head} {t₀ a₀ r₀ : List ℕ} {h : Head} {t a r : List ℕ} {i : ℕ} (g : Going l h₀ t₀ a₀ r₀ h t a r i) where
   abbrev all : Carried
-  all = carried n l h₀ t₀ r₀
+  all = all_carried l h₀ t₀ r₀
 
-  pub going_next : (z : Reply) (t' r' : List ℕ) → i < n → n ≤ length a₀ → (k : Result Read.Call Refusal) → k ≡ call_read (rest (call_size * i) l) → (c : Read.Call) → k ≡ Ok c → Makes h (called c r) t r t' r' z → length t' ≡ length t → length r' ≡ length r
-      → Going n l h₀ t₀ a₀ r₀ z.head t' (set a i z.number) r' (i + 1)
-  unfolding carried
-  going_next z t' r' q m k ek c ec p lt lr =
-      let made : Makes h (call_in (drop (call_size * i) l) r) t r t' r' z = rw ((read_on _ c (rw take_rest at (sym ek ∙ ec))).1, called_is (drop (call_size * i) l) r) at p in
-      let d : n - i ≡ suc (n - suc i) = omega arith in
-      let size : call_size * i + call_size ≡ call_size * suc i = omega arith in
-      let k : drop call_size (drop (call_size * i) l) ≡ drop (call_size * suc i) l = drop-drop call_size (call_size * i) l ∙ ap (λ (j : ℕ). drop j l) size in
+  pub going_next : {z : Reply} {t' r' : List ℕ} {c : Read.Call} → i < length l → length l ≤ length a₀ → call_read (get_or l i []) ≡ Ok c → Makes h (called c r) t r t' r' z
+      → Going l h₀ t₀ a₀ r₀ z.head t' (set a i z.number) r' (i + 1)
+  unfolding all_carried
+  going_next {z = z} {t' = t'} {r' = r'} {c = c} q m ec p =
+      let made : Makes h (call_in (get_or l i []) r) t r t' r' z = rw ((read_on _ c ec).1, called_is (get_or l i []) r) at p in
+      let d : drop i l ≡ get_or l i [] ∷ drop (suc i) l = drop-cons l i [] q in
       let long : i < length a = rw g.answers_length (omega arith) in
       record {
-        inside = omega arith;
-        numbers = rw (add-one, take-suc-set a i z.number long, append_assoc, made.answer, made.table, made.room, ← k) (rw d at g.numbers);
-        head = rw (add-one, made.answer, made.table, made.room, ← k) (rw d at g.head);
-        table = rw (add-one, made.answer, made.table, made.room, ← k) (rw d at g.table);
-        room = rw (add-one, made.answer, made.table, made.room, ← k) (rw d at g.room);
+        numbers = rw (add-one, take-suc-set a i z.number long, append_assoc, made.answer, made.table, made.room) (rw d at g.numbers);
+        head = rw (add-one, made.answer, made.table, made.room) (rw d at g.head);
+        table = rw (add-one, made.answer, made.table, made.room) (rw d at g.table);
+        room = rw (add-one, made.answer, made.table, made.room) (rw d at g.room);
         behind = rw (add-one, drop-set-lt (suc i) a i z.number (omega arith)) (one_less g.behind);
-        table_length = lt ∙ g.table_length;
         answers_length = length-set a i z.number ∙ g.answers_length;
-        room_length = lr ∙ g.room_length;
       }
     where
       one_less : drop i a ≡ drop i a₀ → drop (suc i) a ≡ drop (suc i) a₀
@@ -71,11 +64,10 @@ module _ (n : ℕ) (l : List ℕ) (h₀ : Head) (t₀ a₀ r₀ : List ℕ) (h :
           let j : i + 1 ≡ suc i = add-one i in
           ap (λ (k : ℕ). drop k a) (sym j) ∙ sym (drop-drop 1 i a) ∙ ap (drop 1) e ∙ drop-drop 1 i a₀ ∙ ap (λ (k : ℕ). drop k a₀) j
 
-  pub going_end : n ≤ i → MakesAll n l h₀ t₀ a₀ r₀ t a r h
-  unfolding carried
-  going_end q =
-      let d : n - i ≡ 0 = omega arith in
-      let e : i ≡ n = omega (arith, g.inside) in
+  pub going_end : i ≡ length l → MakesAll l h₀ t₀ a₀ r₀ t a r h
+  unfolding all_carried
+  going_end e =
+      let d : drop i l ≡ [] = drop_of_length-le l (omega (arith, e)) in
       let u : take i a ≡ all.numbers = sym (append-nil (take i a)) ∙ (rw d at g.numbers) in
       let w : a ≡ all.numbers ++ drop i a₀ = sym (take-append-drop i a) ∙ rw (u, g.behind) in
       record {
@@ -106,38 +98,50 @@ module _ (rule size : ℕ) (b : Bool) where
       go true = refl
       go false = refl
 
--- `carry_out`, at its returns
-module _ (rule size : ℕ) (l t a r : List ℕ) (n : ℕ) (en : n ≡ count_calls l a) where
-  number_parts : carry_number rule size l a ≡ first (open_checks rule size ++ (18 if ages_off n l) ∷ [])
-  unfolding carry_number
-  number_parts = rw en
+-- `carry_out`, at its returns: the calls that it makes are the first of the groups, as many as it has answers for
+module _ (rule size : ℕ) (l a : List ℕ) (gs : List (List ℕ)) (n : ℕ) (ea : gs ≡ groups (length l / call_size) l) (en : n ≡ min (length gs) (length a)) where
+  abbrev calls : List (List ℕ)
+  calls = take n gs
 
-  pub carry_refused : (why : Refusal) → number_of why ≡ first (open_checks rule size ++ (18 if ages_off n l) ∷ []) → (m : ℕ) → m ≡ number_of why → (z : Reply) → z ≡ not_opened m → CarriesOut rule size l t a r z t a r
-  carry_refused why e m em z ez =
-      let k : carry_number rule size l a ≡ number_of why = number_parts ∙ sym e in
+  abbrev checks : ℕ
+  checks = first (open_checks rule size ++ (18 if list_any age_off calls) ∷ [])
+
+  counted : n ≡ count_calls l a
+  counted = en ∙ ap (λ (k : ℕ). min k (length a)) (ap length ea ∙ count_groups (length l / call_size) l)
+
+  the_calls : calls ≡ groups n l
+  the_calls = ap (take n) ea ∙ first_groups n (length l / call_size) l (omega (arith, counted))
+
+  numbered_so : carry_number rule size l a ≡ checks
+  unfolding carry_number
+  numbered_so = rw (the_calls, grouped_ages n l, counted) refl
+
+  pub carry_refused : {t r : List ℕ} {z : Reply} {m : ℕ} (why : Refusal) → z ≡ not_opened m → m ≡ number_of why → number_of why ≡ checks → CarriesOut rule size l t a r z t a r
+  carry_refused why ez em e =
+      let k : carry_number rule size l a ≡ number_of why = numbered_so ∙ sym e in
       record { refused = λ u. (rw k (rw em at ez), refl, refl, refl); done = λ u. absurd (some_number why (sym k ∙ u)); demand = λ u. absurd (some_number why (sym k ∙ u)) }
 
-  module _ (e : 0 ≡ first (open_checks rule size ++ (18 if ages_off n l) ∷ [])) where
+  module _ (e : 0 ≡ checks) where
     opens_well : first (open_checks rule size) ≡ 0
-    opens_well = passed_first (open_checks rule size) (18 if ages_off n l ∷ []) tt (sym e)
+    opens_well = passed_first (open_checks rule size) (18 if list_any age_off calls ∷ []) tt (sym e)
 
-    pub carry_ready : ages_off n l ≡ false
-    carry_ready = go (ages_off n l) (passed_second (open_checks rule size) (18 if ages_off n l ∷ []) tt (sym e))
+    pub carry_ready : (length calls ≤ length a) × (list_any age_off calls ≡ false)
+    carry_ready = (omega (arith, ap length the_calls ∙ count_groups n l, en), go (list_any age_off calls) (passed_second (open_checks rule size) (18 if list_any age_off calls ∷ []) tt (sym e)))
       where
         go : (b : Bool) → first (18 if b ∷ []) ≡ 0 → b ≡ false
         go true e = absurd (omega (arith, e))
         go false e = refl
 
-    pub carry_done : (h h' : Head) → h ≡ empty_head rule size → (t' a' r' : List ℕ)
-        → MakesAll n l h t a r t' a' r' h' → CarriesOut rule size l t a r (record { number = 0; head = h' }) t' a' r'
-    carry_done h h' eh t' a' r' p =
-        let k : carry_number rule size l a ≡ 0 = number_parts ∙ sym e in
+    pub carry_done : {t r t' a' r' : List ℕ} {h h' : Head} → h ≡ empty_head rule size → MakesAll calls h t a r t' a' r' h'
+        → CarriesOut rule size l t a r (record { number = 0; head = h' }) t' a' r'
+    carry_done {t = t} {r = r} {h = h} eh p =
+        let k : carry_number rule size l a ≡ 0 = numbered_so ∙ sym e in
         let o : record { number = 0; head = h } ≡ opening rule size = open_accepted rule size 0 (record { number = 0; head = h }) (sym opens_well) refl h eh in
         let f : h ≡ (opening rule size).head = ap (λ (x : Reply). x.head) o in
+        let q = rw counted at (all_made n l (rw (the_calls, f) at p)) in
         let j = journal_is (count_calls l a) l (opening rule size).head t r in
-        let q = rw (en, f) at p in
         record {
           refused = λ u. absurd (u k);
-          done = λ u. (ap (λ (x : Head). record { number = 0; head = x }) q.head, q.table, q.answers, q.room);
-          demand = λ u. (q.head ∙ j.0, q.table ∙ j.1, demand_3 rule size (sym (ap (λ (x : Reply). x.number) o)) t _);
+          done = λ u. (ap (λ (x : Head). record { number = 0; head = x }) q.0, q.1, q.2, q.3);
+          demand = λ u. (q.0 ∙ j.0, q.1 ∙ j.1, demand_3 rule size (sym (ap (λ (x : Reply). x.number) o)) t _);
         }

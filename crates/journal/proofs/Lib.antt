@@ -1,3 +1,4 @@
 pub mod Reading
+pub mod Grouped
 pub mod Carrying
 pub mod WhichCall

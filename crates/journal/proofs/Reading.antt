@@ -1,7 +1,9 @@
--- Calls read from numbers: what was read is the call in the numbers where its age is none that is off, and the scan for such ages by what is left of it.
+-- Calls read from six numbers: what was read is the call in the numbers where its age is none that is off, and the scan for such ages by the
+-- calls that it has passed.
 -- Assumes nothing.
-use Rattle.std.proofs.Common.{◌≡◌, refl, sym, ap, Bool, true, false, cond, eqb, List, ℕ, zero, suc, ◌+◌, ◌-◌, ◌*◌, ◌≤◌, ◌<◌, arith, length, get_or, take, drop, drop-drop, ◌∙◌}
-use Rattle.std.proofs.lemmas.List.{take_rest}
+use Rattle.std.proofs.Common.{◌≡◌, refl, sym, ap, ◌∙◌, Bool, true, false, cond, eqb, List, [], ◌∷◌, ℕ, zero, suc, ◌+◌, ◌<◌, arith, length, get_or, take}
+use Rattle.std.proofs.lemmas.List.Folds.{list_any_more, list_any_at}
+use Rattle.std.specs.List.{list_any}
 use Rattle.std.specs.Prelude.{Result, Ok, Err}
 use Rattle.std.specs.Result.{result_unwrap_or, IsOk}
 use Rattle.refusal.specs.declared.Refusal.{Refusal}
@@ -13,11 +15,7 @@ use Rattle.book.specs.Calls.{post, lift, tip, ask}
 use Rattle.journal.specs.declared.Call.{Call}
 use Rattle.journal.specs.declared.Call.TheVariants.{Transfer, Lift, Tip, Report}
 use Rattle.journal.specs.Reading.{listed, call_read, called}
-use Rattle.journal.specs.Carried.{call_size, transfer_in, lift_in, tip_in, report_in, call_in, age_off, ages_off}
-
--- a slice from a place on
-abbrev pub rest : ℕ → List ℕ → List ℕ
-rest k l = take (length l - k) (drop k l)
+use Rattle.journal.specs.Carried.{transfer_in, lift_in, tip_in, report_in, call_in, age_off}
 
 -- what was read, where an age is off and where none is
 pub read_off : (l : List ℕ) (why : Refusal) → call_read l ≡ Err why → (age_off l ≡ true) × (number_of why ≡ 18)
@@ -48,40 +46,18 @@ called_is l room = go (eqb (get_or l 0 0) 0) (eqb (get_or l 0 0) 4) (eqb (get_or
     go false false true = refl
     go false false false = refl
 
--- Where the scan stands before call i of n: the calls that are left tell whether an age is off.
-pub record Scanned (n : ℕ) (l : List ℕ) (i : ℕ) : Type 0 where
-  pub left : ages_off (n - i) (drop (call_size * i) l) ≡ ages_off n l
+-- the groups before a call have no age that is off, and no more have those up to it
+pub scan_turn : (calls : List (List ℕ)) (i : ℕ) → i < length calls → list_any age_off (take i calls) ≡ false → (c : Call) → call_read (get_or calls i []) ≡ Ok c
+    → list_any age_off (take (i + 1) calls) ≡ false
+scan_turn calls i h s c e = list_any_more age_off calls i [] h ∙ rw (s, (read_on _ c e).0) refl
 
-module _ (n : ℕ) (l : List ℕ) (i : ℕ) (s : Scanned n l i) where
-  pub scan_turn : i < n → (r : Result Call Refusal) → r ≡ call_read (rest (call_size * i) l) → (c : Call) → r ≡ Ok c → Scanned n l (i + 1)
-  unfolding ages_off
-  scan_turn h r er c ec =
-      let e : call_read (drop (call_size * i) l) ≡ Ok c = rw take_rest at (sym er ∙ ec) in
-      let d : n - i ≡ suc (n - (i + 1)) = omega arith in
-      let k : call_size * i + call_size ≡ call_size * (i + 1) = omega arith in
-      record { left = rw (← k, ← drop-drop call_size (call_size * i) l) (rw (d, (read_on _ c e).0) at s.left) }
-
-  pub scan_found : i < n → (r : Result Call Refusal) → r ≡ call_read (rest (call_size * i) l) → (why : Refusal) → r ≡ Err why → number_of why ≡ cond (ages_off n l) 18 0
-  unfolding ages_off
-  scan_found h r er why ee =
-      let e : call_read (drop (call_size * i) l) ≡ Err why = rw take_rest at (sym er ∙ ee) in
-      let d : n - i ≡ suc (n - (i + 1)) = omega arith in
-      let q = read_off _ why e in
-      let o : true ≡ ages_off n l = rw (d, q.0) at s.left in rw (← o, q.1)
-
-  pub scan_end : n ≤ i → (z : ℕ) → z ≡ 0 → z ≡ cond (ages_off n l) 18 0
-  unfolding ages_off
-  scan_end h z ez = let d : n - i ≡ 0 = omega arith in let o : ages_off n l ≡ false = rw d at (sym s.left) in rw o ez
+pub scan_found : (calls : List (List ℕ)) (i : ℕ) → i < length calls → (why : Refusal) → call_read (get_or calls i []) ≡ Err why
+    → number_of why ≡ cond (list_any age_off calls) 18 0
+scan_found calls i h why e = let q = read_off _ why e in rw (list_any_at age_off calls i [] h q.0, q.1) refl
 
 -- each of the calls, where none is off, is read well
-ages_one : (n : ℕ) (l : List ℕ) → ages_off n l ≡ false → (i : ℕ) → i < n → age_off (drop (call_size * i) l) ≡ false
-unfolding ages_off
-ages_one zero l h i q = absurd (omega arith)
-ages_one (suc n) l h zero q = (neither (age_off l) _ h).0
-ages_one (suc n) l h (suc i) q =
-    let k : call_size + call_size * i ≡ call_size * suc i = omega arith in
-    rw (← k, ← drop-drop (call_size * i) call_size l) (ages_one n (drop call_size l) (neither (age_off l) _ h).1 i (omega arith))
-
-pub reads_well : (n : ℕ) (l : List ℕ) → ages_off n l ≡ false → (i : ℕ) → i < n → (r : Result Call Refusal) → r ≡ call_read (rest (call_size * i) l) → IsOk r
+pub reads_well : (calls : List (List ℕ)) → list_any age_off calls ≡ false → (i : ℕ) → i < length calls → IsOk (call_read (get_or calls i []))
 unfolding call_read
-reads_well n l h i q r er = rw (er, take_rest, ages_one n l h i q)
+reads_well [] h i q = absurd (omega arith)
+reads_well (six ∷ calls) h zero q = rw (neither (age_off six) _ h).0 refl
+reads_well (six ∷ calls) h (suc i) q = reads_well calls (neither (age_off six) _ h).1 i (omega arith)

@@ -94,12 +94,20 @@ calls_in (suc n) l h t room =
     let o = call_on h t c in
     c ∷ calls_in n (drop call_size l) o.head o.table (room_left c o room)
 
--- What n calls in turn promise: the head, and table, answers and room after them.
-pub record MakesAll (n : ℕ) (calls : List ℕ) (h : Head) (t a r t' a' r' : List ℕ) (h' : Head) : Type 0 where
-  pub head : h' ≡ (carried n calls h t r).head
-  pub table : t' ≡ (carried n calls h t r).table
-  pub answers : a' ≡ (carried n calls h t r).numbers ++ drop n a
-  pub room : r' ≡ (carried n calls h t r).room
+-- The same after all calls of a list of groups of six numbers, as the code goes over them.
+unfoldable pub all_carried : List (List ℕ) → Head → List ℕ → List ℕ → Carried
+all_carried [] h t room = record { numbers = []; head = h; table = t; room = room }
+all_carried (six ∷ calls) h t room =
+    let c = call_in six room in
+    let o = call_on h t c in
+    numbered o.number (all_carried calls o.head o.table (room_left c o room))
+
+-- What all of them in turn promise: the head, and table, answers and room after them.
+pub record MakesAll (calls : List (List ℕ)) (h : Head) (t a r t' a' r' : List ℕ) (h' : Head) : Type 0 where
+  pub head : h' ≡ (all_carried calls h t r).head
+  pub table : t' ≡ (all_carried calls h t r).table
+  pub answers : a' ≡ (all_carried calls h t r).numbers ++ drop (length calls) a
+  pub room : r' ≡ (all_carried calls h t r).room
 
 -- how many calls there are numbers and answers for
 abbrev pub count_calls : List ℕ → List ℕ → ℕ

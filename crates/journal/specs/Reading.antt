@@ -1,4 +1,4 @@
--- A call as the code reads it from six numbers, or its refusal; and the call that it is, with the room that it is lent. proofs/Read.antt shows that this
+-- A call as the code reads it from six numbers, or its refusal; and the call that it is, with the room that it is lent. proofs/Reading.antt shows that this
 -- is `call_in`.
 -- Definitions only. Assumes nothing.
 use Rattle.std.specs.Prelude.{cond, List, ℕ, eqb, ltb, get_or, Result, Ok, Err}

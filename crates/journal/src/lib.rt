@@ -1,11 +1,12 @@
 // A list of calls carried out on a fresh book, from a lent slice of numbers.
 #![tactic(auto)]
 
-ghost use Rattle.std.specs.Prelude.{◌≡◌, false, cond, ◌∷◌, ◌++◌, [], ◌≤◌, ◌*◌, length};
+ghost use Rattle.std.specs.Prelude.{◌≡◌, false, cond, ◌∷◌, ◌++◌, [], ◌≤◌, length};
+ghost use Rattle.std.specs.List.{list_any};
 ghost use Rattle.refusal.specs.Numbers.{◌if◌, first};
 ghost use Rattle.refusal.specs.Refusals.{outcome_number};
 ghost use Rattle.book.specs.Head.{open_checks};
-ghost use Rattle.journal.specs.Carried.{call_size, ages_off, Makes, MakesAll, CarriesOut};
+ghost use Rattle.journal.specs.Carried.{age_off, Makes, MakesAll, CarriesOut};
 ghost use Rattle.journal.specs.Reading.{age_read, call_read, called};
 
 use book::{Head, Lift, Reply, Report, Tip, Transfer};
@@ -44,30 +45,29 @@ fn read_age(age: u32) -> Result<u16, Refusal>
 
 // The call that six numbers are.
 #[tactic(auto, unfolding(crate::specs::Reading::call_read, crate::specs::Carried::age_off))]
-fn read_call(six: &[u32]) -> Result<Call, Refusal>
-    requires { call_size ≤ length six.now }
+fn read_call(six: &[u32; CALL_SIZE]) -> Result<Call, Refusal>
     ensures { result ≡ call_read six.now }
 {
-    Ok(match six[0] {
-        TRANSFER => Call::Transfer(Transfer {
-            source: six[1],
-            destination: six[2],
-            minute: six[3],
-            weight: six[4],
-            age: read_age(six[5])?,
+    Ok(match *six {
+        [TRANSFER, source, destination, minute, weight, age] => Call::Transfer(Transfer {
+            source,
+            destination,
+            minute,
+            weight,
+            age: read_age(age)?,
         }),
-        LIFT => Call::Lift(Lift {
-            source: six[1],
-            minute: six[2],
-            weight: six[3],
-            age: read_age(six[4])?,
+        [LIFT, source, minute, weight, age, _] => Call::Lift(Lift {
+            source,
+            minute,
+            weight,
+            age: read_age(age)?,
         }),
-        TIP => Call::Tip(Tip {
-            destination: six[1],
-            minute: six[2],
+        [TIP, destination, minute, ..] => Call::Tip(Tip {
+            destination,
+            minute,
         }),
-        HELD => Call::Report(Report::Held(six[1])),
-        SPREAD => Call::Report(Report::Spread(six[1], six[2], six[3])),
+        [HELD, vessel, ..] => Call::Report(Report::Held(vessel)),
+        [SPREAD, origin, from, to, ..] => Call::Report(Report::Spread(origin, from, to)),
         _ => Call::Report(Report::Whole),
     })
 }
@@ -84,43 +84,42 @@ fn make(head: Head, table: &mut [u32], call: Call, room: &mut [u32]) -> Reply
     }
 }
 
-// Whether all ages of the first n calls are such.
-fn check_ages(n: usize, calls: &[u32]) -> Result<(), Refusal>
-    requires { call_size * n ≤ length calls.now }
-    ensures { outcome_number result ≡ cond (ages_off n calls.now) 18 0 }
+// Whether all ages of the calls are such.
+#[tactic(auto, using(crate::proofs::Reading::scan_turn, crate::proofs::Reading::scan_found))]
+fn check_ages(calls: &[[u32; CALL_SIZE]]) -> Result<(), Refusal>
+    ensures { outcome_number result ≡ cond (list_any age_off calls.now) 18 0 }
 {
-    for i in 0..n {
-        read_call(&calls[CALL_SIZE * i..])?;
+    for six in calls {
+        read_call(six)?;
     }
     Ok(())
 }
 
-// The checks of a list of n calls: those of opening, then its ages.
+// The checks of a list of calls: those of opening, then its ages.
 #[tactic(auto, using(crate::proofs::Carrying::list_unopened, crate::proofs::Carrying::list_opened))]
-fn check_list(rule: u32, vessels: u32, n: usize, calls: &[u32]) -> Result<(), Refusal>
-    requires { call_size * n ≤ length calls.now }
-    ensures { outcome_number result ≡ first (open_checks rule vessels ++ (18 if ages_off n calls.now) ∷ []) }
+fn check_list(rule: u32, vessels: u32, calls: &[[u32; CALL_SIZE]]) -> Result<(), Refusal>
+    ensures { outcome_number result ≡ first (open_checks rule vessels ++ (18 if list_any age_off calls.now) ∷ []) }
 {
     opening::check_opening(rule, vessels)?;
-    check_ages(n, calls)
+    check_ages(calls)
 }
 
-// The first n calls in turn; the number of each goes to `answers`.
+// The calls in turn; the number of each goes to `answers`.
+#[tactic(auto, using(crate::proofs::Reading::reads_well))]
 fn call_all(
     fresh: Head,
-    n: usize,
     table: &mut [u32],
-    calls: &[u32],
+    calls: &[[u32; CALL_SIZE]],
     answers: &mut [u32],
     room: &mut [u32],
 ) -> Head
-    requires { (call_size * n ≤ length calls.now) × (n ≤ length answers.old) × (ages_off n calls.now ≡ false) }
-    ensures { MakesAll n calls.now fresh table.old answers.old room.old
+    requires { (length calls.now ≤ length answers.old) × (list_any age_off calls.now ≡ false) }
+    ensures { MakesAll calls.now fresh table.old answers.old room.old
         table.new answers.new room.new result }
 {
     let mut head = fresh;
-    for i in 0..n {
-        let call = read_call(&calls[CALL_SIZE * i..]).unwrap();
+    for (i, six) in calls.iter().enumerate() {
+        let call = read_call(six).unwrap();
         let made = make(head, table, call, room);
         answers[i] = made.number;
         head = made.head;
@@ -130,6 +129,7 @@ fn call_all(
 
 // Opens a book and carries out the calls, as many as there are numbers and room for answers. A list with an age that is none is refused
 // before any of its calls is made.
+#[tactic(auto, using(crate::proofs::Carrying::carry_ready, crate::proofs::Carrying::carry_done))]
 pub fn carry_out(
     rule: u32,
     vessels: u32,
@@ -141,11 +141,13 @@ pub fn carry_out(
     ensures { CarriesOut rule vessels calls.now table.old answers.old room.old
         result table.new answers.new room.new }
 {
-    let n = (calls.len() / CALL_SIZE).min(answers.len());
-    match check_list(rule, vessels, n, calls) {
+    let (groups, _) = calls.as_chunks::<CALL_SIZE>();
+    let n = groups.len().min(answers.len());
+    let calls = &groups[..n];
+    match check_list(rule, vessels, calls) {
         Ok(()) => {
             let fresh = opening::empty_head(rule, vessels);
-            let head = call_all(fresh, n, table, calls, answers, room);
+            let head = call_all(fresh, table, calls, answers, room);
             Reply { number: 0, head }
         }
         Err(why) => opening::refused(u32::from(why)),

@@ -44,16 +44,12 @@ pub lines_end : {w w₁ : Writer} {all ps left : List Piece} → InLines w all p
 lines_end {w} {w₁} {all} {ps} {left} k e = let q : ps ≡ all = sym (append-nil ps) ∙ (rw e at k.parts) in rw (← q) k.lines
 
 -- how many pieces there are
-pub pieces_count : (ps : List Piece) (n : ℕ) (t : List ℕ) → ps ≡ pieces_of n t → length ps ≡ n
-pieces_count ps n t e = rw e (length_pieces n t)
+pub pieces_count : {ps : List Piece} (n : ℕ) (t : List ℕ) → ps ≡ pieces_of n t → length ps ≡ n
+pieces_count n t e = rw e (length_pieces n t)
 
 -- the last line, if there is one
-module _ (w w' : Writer) (index number : ℕ) where
-  pub last_none : number ≡ 0 → Writes w (last_line index number) last_size w
-  last_none e = rw e (none_written w last_size)
-
-  pub last_stopped : (number ≡ 0 → ⊥) → Writes w (stopped_line index number) last_size w' → Writes w (last_line index number) last_size w'
-  last_stopped h p = rw (← (not_zero number [] (stopped_line index number) h)) p
+pub last_stopped : {w w' : Writer} (index number : ℕ) → (number ≡ 0 → ⊥) → Writes w (stopped_line index number) last_size w' → Writes w (last_line index number) last_size w'
+last_stopped index number h p = rw (← (not_zero number [] (stopped_line index number) h)) p
 
 -- a text written from the start of bytes
 pub listed : {w w' : Writer} {before text after : List ℕ} {count : ℕ} (size : ℕ) → w.out.now ≡ before → w.at ≡ 0 → size ≤ length before → Writes w text size w'
@@ -69,7 +65,7 @@ listed {w} {w'} {before} {text} {after} {count} size b z h p k a =
     }
 
 -- the two ways to list a run
-module _ (w w' : Writer) (ran : Ran) (ps : List Piece) where
+module _ {w w' : Writer} (ran : Ran) (ps : List Piece) where
   pub lists_refused : ran.head.vessels ≡ 0 → Writes w (refused_line ran.number) refused_size w' → Writes w (listing_text ran ps) (room_for ran.head.pieces) w'
   unfolding listing_text
   lists_refused e p = rw e (p.0, omega (arith, p.1))

@@ -48,6 +48,7 @@ fn put_piece(out: &mut Writer, p: Piece)
 }
 
 // The lines of the pieces.
+#[tactic(auto, using(crate::proofs::LineLaws::line_fits, crate::proofs::LineLaws::lines_end))]
 fn put_pieces(out: &mut Writer, pieces: &Pieces)
     requires { Room out.old (piece_size * length pieces.now) }
     ensures { Writes out.old (piece_lines pieces.now) (piece_size * length pieces.now) out.new }
@@ -70,6 +71,7 @@ fn put_last(out: &mut Writer, index: u32, number: u32)
 }
 
 // The lines of a run, or the only one where it was refused.
+#[tactic(auto, using(crate::proofs::LineLaws::pieces_count))]
 fn put_run(out: &mut Writer, ran: Ran, table: &[u32])
     requires { (4 * ran.head.pieces ≤ length table.now) × Room out.old (room_for ran.head.pieces) }
     ensures { Writes out.old (listing_of ran table.now) (room_for ran.head.pieces) out.new }
@@ -95,6 +97,7 @@ pub fn put_listing(ran: Ran, table: &[u32], out: &mut [u8]) -> usize
 }
 
 // Runs a sheet on the table and lists the run.
+#[tactic(auto, using(crate::proofs::RunListing::list_ready, crate::proofs::RunListing::list_done))]
 pub fn list_sheet(sheet: &[u8], table: &mut [u32], out: &mut [u8]) -> usize
     requires { listing_room ≤ length out.old }
     ensures { ListsSheet sheet.now table.old out.old result table.new out.new }

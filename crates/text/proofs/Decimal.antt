@@ -2,14 +2,14 @@
 -- Assumes nothing.
 use Rattle.std.proofs.Common.{ℕ, zero, suc, ◌+◌, ◌-◌, ◌*◌, ◌/◌, ◌%◌, ◌^◌, ◌<◌, ◌≤◌, arith, ◌≡◌, refl, ◌∙◌, List, [], ◌∷◌, ◌++◌, append_assoc, get_or, Bool, true, false, ltb, sym}
 use Rattle.std.specs.Fmt.{decimal as printed}
-use Rattle.std.proofs.lemmas.Fmt.{decimal_digit, decimal_step}
+use Rattle.std.proofs.lemmas.Fmt.{decimal_digit, decimal_step, length-decimal-le}
 use borrow.Author.Tests.{ltb-true, ltb-false}
 use native.Mathlib.Nat.{pow-succ'}
 use Rattle.refusal.specs.Numbers.{TOP}
 use Rattle.text.specs.Writing.{Written, Writes}
 use Rattle.text.specs.declared.Writer.{Writer}
 use Rattle.text.specs.Digits.{last_digit, digits, decimal}
-use Rattle.text.proofs.TextLaws.{no_digits, more_digits, ten_digits}
+use Rattle.text.proofs.TextLaws.{no_digits, more_digits}
 
 -- the number that digits say, behind those read before
 abbrev value_on : ℕ → List ℕ → ℕ
@@ -77,6 +77,7 @@ decimal_printed (suc n) h = sym (more_digits 9 (suc n) (omega arith)) ∙ printe
 -- a number's text that was written: no longer than it may be
 pub number_written : {w w' : Writer} (n : ℕ) (text bytes : List ℕ) → n < 2 ^ 32 → text ≡ printed n → bytes ≡ text → Written w bytes w' → Writes w (decimal n) 10 w'
 number_written {w} {w'} n text bytes h e d p =
-    let same : bytes ≡ decimal n = d ∙ e ∙ sym (decimal_printed n (omega arith)) in
+    let same : bytes ≡ printed n = d ∙ e in
+    let ten = length-decimal-le 10 n (omega arith) (omega arith) (omega arith) in
     let q = rw same at p in
-    (q, omega (arith, ten_digits n, q.put.next_is))
+    (rw (decimal_printed n (omega arith)) q, omega (arith, ten, q.put.next_is))

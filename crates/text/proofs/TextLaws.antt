@@ -1,10 +1,10 @@
--- Laws of texts written one behind the other, and of how many digits a number has.
+-- Laws of texts written one behind the other, and of a number's digits.
 -- Assumes nothing.
 use Rattle.std.proofs.Common.{ℕ, zero, suc, ◌+◌, ◌-◌, ◌/◌, ◌<◌, ◌≤◌, arith, ◌≡◌, refl, sym, ◌∙◌, List, [], ◌∷◌, ◌++◌, length, length-append, set, add-zero, ap}
 use Rattle.std.proofs.lemmas.Slice.{put_mid-paste}
 use lib.Seq.{sets, sets-eq, length-sets, take-length}
 use borrow.Rule.Slice.PartMut.{put_mid}
-use Rattle.text.specs.Digits.{last_digit, digits, decimal}
+use Rattle.text.specs.Digits.{last_digit, digits}
 use Rattle.text.specs.Text.{Put}
 use Rattle.text.specs.Writing.{Written, Writes}
 use Rattle.text.specs.declared.Writer.{Writer}
@@ -26,17 +26,6 @@ more_digits k (suc n) h = refl
 -- a text that was copied to its place
 pub text_put : (l text part : List ℕ) (at : ℕ) → at + length text ≤ length l → part ≡ text → Put l at text (at + length text) (put_mid at (at + length text - at) l part)
 text_put l text part at h e = record { next_is = refl; after_is = put_mid-paste at _ l part text (length text) e (omega arith) refl ∙ rw take-length (sym (sets-eq text l at h)) }
-
--- no more than k digits
-pub few_digits : (k n : ℕ) → length (digits k n) ≤ k
-unfolding digits
-few_digits zero n = omega arith
-few_digits (suc k) zero = omega arith
-few_digits (suc k) (suc n) = rw length-append (omega (arith, few_digits k (suc n / 10)))
-
-pub ten_digits : (n : ℕ) → length (decimal n) ≤ 10
-unfolding decimal
-ten_digits n = rw length-append (omega (arith, few_digits 9 (n / 10)))
 
 -- nothing is written
 pub none_written : (w : Writer) (size : ℕ) → Writes w [] size w

@@ -35,6 +35,7 @@ impl<'a> Writer<'a> {
     }
 
     // Writes a text.
+    #[tactic(auto, using(crate::proofs::TextLaws::text_put, crate::proofs::TextLaws::text_written))]
     pub fn put_text(&mut self, text: &[u8])
         requires { Room self.old (length text.now) }
         ensures { Written self.old text.now self.new }
@@ -45,6 +46,7 @@ impl<'a> Writer<'a> {
     }
 
     // Writes a number in decimal.
+    #[tactic(auto, using(crate::proofs::Decimal::number_written))]
     pub fn put_number(&mut self, n: u32)
         requires { Room self.old most_digits }
         ensures { Writes self.old (decimal n) most_digits self.new }
@@ -55,6 +57,7 @@ impl<'a> Writer<'a> {
     }
 
     // Writes a word and a number behind it.
+    #[tactic(auto, using(crate::proofs::TextLaws::then_written))]
     pub fn put_word(&mut self, text: &[u8], n: u32)
         requires { Room self.old (length text.now + most_digits) }
         ensures { Writes self.old (word text.now n) (length text.now + most_digits) self.new }

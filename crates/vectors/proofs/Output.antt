@@ -42,10 +42,6 @@ pub number_more : (ns : List ℕ) (i : ℕ) (old between new : Option (List ℕ)
     → Appends between new (decimal (get_or ns i 0) ++ (space ∷ [])) → Appends old new (numbers_text (take (i + 1) ns))
 number_more ns i old between new h a b = rw (add-one, more ns i h) (appends_both old between new _ _ a b)
 
-pub none_yet : (ns : List ℕ) (old : Option (List ℕ)) → Appends old old (numbers_text (take 0 ns))
-unfolding numbers_text
-none_yet ns old = appends_none old
-
 -- what is shown of a list of calls
 carried_shown : (rule : ℕ) (calls : List ℕ) (r : Reply) (t answers room : List ℕ)
     → CarriesOut rule vessels calls (replicate table_room 0) (replicate answers_room unwritten) (replicate report_room unwritten) r t answers room

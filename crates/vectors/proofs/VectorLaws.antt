@@ -1,5 +1,5 @@
 -- A vector's sheet is that of the numbers read, and the part that is listed is the sheet. Assumes nothing.
-use Rattle.std.proofs.Common.{ℕ, ◌+◌, ◌-◌, ◌/◌, ◌≤◌, min, arith, ◌≡◌, ap, ◌∙◌, List, length, get_or, take, drop, replicate, length-take, length-drop, eq-eqb, ne_eqb}
+use Rattle.std.proofs.Common.{ℕ, ◌+◌, ◌-◌, ◌/◌, ◌≤◌, min, arith, ◌≡◌, ap, ◌∙◌, List, length, get_or, take, drop, replicate, length-take, length-drop}
 use native.Mathlib.Nat.{sub-zero}
 use lib.ListN.{length-replicate}
 use lib.Seq.{sets}
@@ -8,7 +8,7 @@ use Rattle.fields.specs.Movements.{given_size}
 use Rattle.writing.specs.Writing.{written}
 use Rattle.listing.specs.Listing.{sheet_listing}
 use Rattle.text.specs.Numbers.{numbers_in}
-use Rattle.vectors.specs.Vectors.{vector_numbers, vector_rule, vector_movements, vessels, names, numbers_room, table_room, sheet_room, VectorWritten, vector_listing, heading_line, calls_listing, heading, calls_mark, shown}
+use Rattle.vectors.specs.Vectors.{vector_numbers, vector_rule, vector_movements, vessels, names, numbers_room, table_room, sheet_room, VectorWritten, vector_listing}
 use Rattle.text.proofs.NumberLaws.{first_put}
 
 -- the numbers that were read into so much memory
@@ -38,18 +38,3 @@ vector_written text numbers count ec en rule movements (er, em) before after ea 
 pub vector_listed : (text sheet : List ℕ) (size : ℕ) → VectorWritten text (replicate sheet_room 0) size sheet
     → sheet_listing (take (size - 0) sheet) (replicate table_room 0) ≡ vector_listing text
 vector_listed text sheet size w = rw (sub-zero, w.after_is, w.size_is)
-
--- what is shown of a line, by its first byte
-module _ (line : List ℕ) (first : ℕ) (e : first ≡ get_or line 0 heading) where
-  pub shown_heading : first ≡ heading → heading_line line ≡ shown line
-  unfolding shown
-  shown_heading h = rw (← e, eq-eqb _ _ h)
-
-  module _ (other : first ≡ heading → ⊥) where
-    pub shown_calls : first ≡ calls_mark → calls_listing line ≡ shown line
-    unfolding shown
-    shown_calls h = rw (← e, ne_eqb _ _ other, eq-eqb _ _ h)
-
-    pub shown_sheet : (first ≡ calls_mark → ⊥) → vector_listing line ≡ shown line
-    unfolding shown
-    shown_sheet h = rw (← e, ne_eqb _ _ other, ne_eqb _ _ h)

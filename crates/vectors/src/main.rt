@@ -5,7 +5,7 @@
 
 ghost use Rattle.std.specs.Prelude.{◌≡◌, get_or, drop, OnOk};
 ghost use Rattle.std.specs.Io.KnownBytes.{Appends};
-ghost use Rattle.vectors.specs.Vectors.{heading_line, VectorWritten, vector_listing, calls_listing, numbers_line, shown};
+ghost use Rattle.vectors.specs.Vectors.{heading, heading_line, VectorWritten, vector_listing, calls_listing, numbers_line, shown};
 
 use fields::layout::{ENTRY_SIZE, GIVEN_SIZE, HEADER_SIZE, NAME_SIZE};
 use input::read_full;
@@ -64,6 +64,7 @@ fn show<W: Write>(text: &[u8], out: &mut W) -> io::Result<()>
 }
 
 // Writes numbers on a line, each with a space behind it.
+#[tactic(auto, using(crate::proofs::Output::appends_none, crate::proofs::Output::number_more), unfolding(crate::specs::Vectors::numbers_text))]
 fn print_line<W: Write>(numbers: &[u32], out: &mut W) -> io::Result<()>
     ensures { OnOk result (Appends (W.contents out.old) (W.contents out.new) (numbers_line numbers.now)) }
 {
@@ -104,11 +105,19 @@ fn print_heading<W: Write>(line: &[u8], out: &mut W) -> io::Result<()>
     out.write_all(b"\n")
 }
 
+// The first byte of a line, or that of a heading where it is empty.
+fn first_byte(line: &[u8]) -> u8
+    ensures { result ≡ get_or line.now 0 heading }
+{
+    line.first().copied().unwrap_or(b'#')
+}
+
 // Writes what is shown of a line: its first byte tells what it is, and an empty line is a heading.
+#[tactic(auto, unfolding(crate::specs::Vectors::shown))]
 pub fn show_line<W: Write>(line: &[u8], out: &mut W) -> io::Result<()>
     ensures { OnOk result (Appends (W.contents out.old) (W.contents out.new) (shown line.now)) }
 {
-    match line.first().copied().unwrap_or(b'#') {
+    match first_byte(line) {
         b'#' => print_heading(line, out),
         b'c' => show_calls(line, out),
         _ => show(line, out),

@@ -4,4 +4,4 @@ use Rattle.journal.proofs.Carrying.{Going}
 use Rattle.journal.proofs.call_all.Given as goal
 
 abbrev pub invariant-loop-i : goal.invariant-loop-i
-invariant-loop-i l = Going l.n l.calls l.initial.head l.initial.table l.initial.answers l.initial.room l.head l.table l.answers l.room l.i
+invariant-loop-i l = Going l.calls l.initial.head l.initial.table l.initial.answers l.initial.room l.head l.table l.answers l.room l.i

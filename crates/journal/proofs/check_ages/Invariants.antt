@@ -1,6 +1,8 @@
--- `check_ages` meets its contract. The invariant: the calls that are left tell whether some age is off.
-use Rattle.journal.proofs.Reading.{Scanned}
+-- `check_ages` meets its contract. The invariant: no call so far has an age that is off.
+use Rattle.std.proofs.Common.{◌≡◌, false, take}
+use Rattle.std.specs.List.{list_any}
+use Rattle.journal.specs.Carried.{age_off}
 use Rattle.journal.proofs.check_ages.Given as goal
 
-abbrev pub invariant-loop-i : goal.invariant-loop-i
-invariant-loop-i l = Scanned l.n l.calls l.i
+abbrev pub invariant-loop-six : goal.invariant-loop-six
+invariant-loop-six l = list_any age_off (take l.six-index l.calls) ≡ false

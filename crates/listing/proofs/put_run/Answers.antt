@@ -7,16 +7,10 @@ use Rattle.listing.proofs.put_run.Goals as goal
 
 pub returns-then-ran-eq0 : goal.returns-then-ran-eq0
 unfolding refused_line
-returns-then-ran-eq0 c = lists_refused _ _ _ _ (search rules) (search (rules, then_written))
+returns-then-ran-eq0 c = lists_refused _ _ (search rules) (search (rules, then_written))
 
 pub returns-else-ran-eq0 : goal.returns-else-ran-eq0
 unfolding book_text
 returns-else-ran-eq0 c =
-    let k : length c.of.result ≡ c.args.ran.head.pieces = pieces_count _ _ _ c.of.ensures in
-    lists_book _ _ _ _ (search rules) (rw (← c.of.ensures) (search (rules, then_written)))
-
-pub put_pieces-requires : goal.put_pieces-requires
-put_pieces-requires c = let k : length c.of.result ≡ c.args.ran.head.pieces = pieces_count _ _ _ c.of.ensures in search rules
-
-pub put_last-requires : goal.put_last-requires
-put_last-requires c = let k : length c.of.result ≡ c.args.ran.head.pieces = pieces_count _ _ _ c.of.ensures in search rules
+    let k : length c.of.result ≡ c.args.ran.head.pieces = pieces_count _ _ c.of.ensures in
+    lists_book _ _ (search rules) (rw (← c.of.ensures) (search (rules, then_written)))
