@@ -18,16 +18,8 @@ sets_append [] b l i = rw add-zero
 sets_append (x ∷ a) b l i = rw (add-suc, ← suc-add) (sets_append a b (set l i x) (suc i))
 
 -- what is put behind a is put as one with it
-pub put_then : (l l₁ l₂ a b : List ℕ) (i j : ℕ) → j ≡ i + length a → l₁ ≡ sets l i a → l₂ ≡ sets l₁ j b → l₂ ≡ sets l i (a ++ b)
-put_then l l₁ l₂ a b i j ej e₁ e₂ = e₂ ∙ rw (e₁, ej) (sets_append a b l i)
-
-pub number_then : (l l₁ l₂ b : List ℕ) (i j w x : ℕ) → j ≡ i + w → l₁ ≡ sets l i (bytes_of w x) → l₂ ≡ sets l₁ j b → l₂ ≡ sets l i (bytes_of w x ++ b)
-number_then l l₁ l₂ b i j w x ej e₁ e₂ = put_then l l₁ l₂ (bytes_of w x) b i j (rw length_bytes ej) e₁ e₂
-
-pub three_numbers : (l l₁ l₂ l₃ : List ℕ) (i j k v w u a b c : ℕ) → l₁ ≡ sets l i (bytes_of v a) → l₂ ≡ sets l₁ j (bytes_of w b) → l₃ ≡ sets l₂ k (bytes_of u c)
-    → j ≡ i + v → k ≡ j + w → l₃ ≡ sets l i (bytes_of v a ++ bytes_of w b ++ bytes_of u c)
-three_numbers l l₁ l₂ l₃ i j k v w u a b c e₁ e₂ e₃ ej ek =
-    simp append_assoc (number_then l l₁ l₃ (bytes_of w b ++ bytes_of u c) i j v a ej e₁ (number_then l₁ l₂ l₃ (bytes_of u c) j k w b ek e₂ e₃))
+pub put_then : (l a b : List ℕ) (i j : ℕ) → j ≡ i + length a → sets (sets l i a) j b ≡ sets l i (a ++ b)
+put_then l a b i j e = rw e (sets_append a b l i)
 
 -- a part of a list that is written whole
 pub part_put : (l new bytes : List ℕ) (at width : ℕ) → at + length bytes ≤ length l → width ≡ length bytes → new ≡ bytes → put_mid at width l new ≡ sets l at bytes

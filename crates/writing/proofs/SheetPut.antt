@@ -4,9 +4,9 @@ use Rattle.std.proofs.lemmas.List.{get_or-map, length-map}
 use lib.Seq.{sets}
 use Rattle.fields.specs.declared.entries.Entry.{Entry}
 use Rattle.fields.specs.Movements.{entry_size, given_in, entries_given, entry_bytes, entries_bytes}
-use Rattle.fields.specs.Layout.{mark, header_size, name_size, rule_at, names_at, entries_start}
+use Rattle.fields.specs.Layout.{header_size, name_size, entries_start}
 use Rattle.fields.proofs.PutLaws.{length_bytes, put_then, item_turn, item_end}
-use Rattle.writing.specs.Writing.{count_given, count_bytes, layout_bytes, header_bytes, sheet_of}
+use Rattle.writing.specs.Writing.{count_given, header_bytes, sheet_of}
 
 pub length_entry : (e : Entry) → length (entry_bytes e) ≡ entry_size
 length_entry e = simp (length-append, length_bytes)
@@ -22,15 +22,9 @@ module _ (given : List (List ℕ)) (out goal : List ℕ) (at i : ℕ) where
   pub entries_end : length given ≤ i → sets out (at + entry_size * i) (entries_bytes (drop i (map given_in given))) ≡ goal → out ≡ goal
   entries_end h e = item_end entry_bytes entry_size (map given_in given) out goal at i (rw length-map h) e
 
--- the header, and the whole sheet
-pub header_put : (l letters l₁ l₂ l₃ : List ℕ) (rule vessels movements : ℕ) → letters ≡ mark → l₁ ≡ sets l 0 letters
-    → l₂ ≡ sets l₁ rule_at (count_bytes rule vessels movements) → l₃ ≡ sets l₂ names_at (layout_bytes vessels movements)
-    → l₃ ≡ sets l 0 (header_bytes rule vessels movements)
-header_put l letters l₁ l₂ l₃ rule vessels movements em e₁ e₂ e₃ =
-    let behind : names_at ≡ 0 + length (mark ++ count_bytes rule vessels movements) = simp (length-append, length_bytes) in
-    put_then l l₂ l₃ (mark ++ count_bytes rule vessels movements) (layout_bytes vessels movements) 0 names_at behind
-    (put_then l l₁ l₂ mark (count_bytes rule vessels movements) 0 rule_at refl (e₁ ∙ rw em) e₂) e₃
+pub ruleset lengths = (length-append)
 
+-- the whole sheet
 pub length_header : (rule vessels movements : ℕ) → length (header_bytes rule vessels movements) ≡ header_size
 length_header rule vessels movements = simp (length-append, length_bytes)
 
@@ -42,6 +36,5 @@ unfolding sheet_of
 sheet_put l l₁ l₂ l₃ names numbers rule vessels en e₁ e₂ e₃ =
     let h = header_bytes rule vessels (count_given numbers) in
     let eh = length_header rule vessels (count_given numbers) in
-    put_then l l₂ l₃ (h ++ names) (entries_bytes (entries_given (count_given numbers) numbers)) 0 (entries_start vessels)
-    (rw length-append (omega arith))
-    (put_then l l₁ l₂ h names 0 header_size (omega arith) e₁ e₂) e₃
+    let front : l₂ ≡ sets l 0 (h ++ names) = e₂ ∙ rw e₁ (put_then l h names 0 header_size (omega arith)) in
+    e₃ ∙ rw front (put_then l (h ++ names) (entries_bytes (entries_given (count_given numbers) numbers)) 0 (entries_start vessels) (rw length-append (omega arith)))

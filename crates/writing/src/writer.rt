@@ -107,6 +107,7 @@ impl<'a> Draft<'a> {
     }
 }
 
+#[tactic(auto, using(fields::proofs::PutLaws::put_then, fields::proofs::PutLaws::length_bytes, std::proofs::Common::append_assoc))]
 fn put_counts(out: &mut [u8], header: Header)
     requires { header_size ≤ length out.old }
     ensures { out.new ≡ sets out.old rule_at (count_bytes header.rule header.vessels header.movements) }
@@ -116,6 +117,7 @@ fn put_counts(out: &mut [u8], header: Header)
     put_number(out, MOVEMENTS_AT, 4, header.movements);
 }
 
+#[tactic(auto, using(fields::proofs::PutLaws::put_then, fields::proofs::PutLaws::length_bytes, std::proofs::Common::append_assoc))]
 fn put_layout(out: &mut [u8], header: Header)
     requires { (header_size ≤ length out.old) × Within header.vessels header.movements }
     ensures { out.new ≡ sets out.old names_at (layout_bytes header.vessels header.movements) }
@@ -127,7 +129,7 @@ fn put_layout(out: &mut [u8], header: Header)
     put_number(out, LENGTH_AT, 4, size as u32);
 }
 
-#[tactic(auto, using(crate::proofs::SheetPut::header_put))]
+#[tactic(auto, using(fields::proofs::PutLaws::put_then, fields::proofs::PutLaws::length_bytes, std::proofs::Common::append_assoc, crate::proofs::SheetPut::lengths))]
 fn put_header(out: &mut [u8], header: Header)
     requires { (header_size ≤ length out.old) × Within header.vessels header.movements }
     ensures { out.new ≡ sets out.old 0 (header_bytes header.rule header.vessels header.movements) }
@@ -138,6 +140,7 @@ fn put_header(out: &mut [u8], header: Header)
 }
 
 // Puts a movement into the twelve bytes from `at` on. Not into an array: std's mutable chunks tell nothing of what the slice ends as.
+#[tactic(auto, using(fields::proofs::PutLaws::put_then, fields::proofs::PutLaws::length_bytes, std::proofs::Common::append_assoc))]
 fn put_entry(out: &mut [u8], at: usize, e: Entry)
     requires { at + entry_size ≤ length out.old }
     ensures { out.new ≡ sets out.old at (entry_bytes e) }
@@ -150,6 +153,7 @@ fn put_entry(out: &mut [u8], at: usize, e: Entry)
 }
 
 // Puts the movements given into the bytes from `at` on.
+#[tactic(auto, using(crate::proofs::SheetPut::entries_turn, crate::proofs::SheetPut::entries_end))]
 fn put_entries(out: &mut [u8], at: usize, movements: &[[u32; GIVEN_SIZE]])
     requires { at + entry_size * length movements.now ≤ length out.old }
     ensures { out.new ≡ sets out.old at (entries_bytes (map given_in movements.now)) }
