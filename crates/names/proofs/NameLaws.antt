@@ -1,12 +1,13 @@
 -- Laws of names: what std counts, tests and compares as document 01 does, and the part of the bytes that is a name. Assumes nothing.
-use Rattle.std.proofs.Common.{ℕ, ◌+◌, arith, ◌≡◌, refl, sym, ◌∙◌, Bool, true, false, not, cond, List, [], ◌∷◌, eqb, ltb, lt-ltb, eqb-true, length, drop, ◌*◌, ◌/◌, ◌≤◌, ◌++◌, take, ap, length-take, take-append-drop}
+use Rattle.std.proofs.Common.{ℕ, ◌+◌, ◌<◌, get_or, arith, ◌≡◌, refl, sym, ◌∙◌, Bool, true, false, not, ◌||◌, cond, List, [], ◌∷◌, eqb, ltb, lt-ltb, eqb-true, length, drop, ◌*◌, ◌/◌, ◌≤◌, ◌++◌, take, ap, length-take, take-append-drop}
 use Rattle.std.proofs.lemmas.Bool.{eqb-false}
+use Rattle.std.proofs.lemmas.List.{drop_more, drop_all}
 use Rattle.std.specs.Char.{is_ascii_graphic}
 use Rattle.std.specs.Cmp.Lexicographic.{pointwise}
 use Rattle.std.specs.List.{list_all, list_any, prefix_len}
 use Rattle.book.specs.Head.{all_zero}
 use Rattle.fields.specs.Bytes.{exists}
-use Rattle.names.specs.Names.{graphic, letters, one_more_if, well_formed, used_in, names_in}
+use Rattle.names.specs.Names.{graphic, letters, one_more_if, well_formed, used_in, name_off, names_off, names_in}
 use Rattle.fields.specs.Layout.{name_size}
 use Rattle.std.specs.Simd.{first_chunks}
 use Rattle.fields.proofs.ChunkLaws.{chunks_taken}
@@ -42,6 +43,16 @@ unfolding exists
 used_found name [] r e = e
 used_found name (other ∷ behind) r e =
     rw (slices_compared other name, same_either other name, used_found name behind (list_any (λ other. pointwise eqb other name) behind) refl) at e
+
+-- the names left, from name i on
+pub names_more : (names : List (List ℕ)) (i : ℕ) → i < length names
+    → names_off (drop i names) ≡ (name_off (get_or names i []) (drop (i + 1) names) || names_off (drop (i + 1) names))
+unfolding exists
+names_more names i h = rw (drop_more names i [] h)
+
+pub names_none : (names : List (List ℕ)) (i : ℕ) → length names ≤ i → names_off (drop i names) ≡ false
+unfolding exists
+names_none names i h = rw (drop_all i names h)
 
 -- the names that std cuts a part of the bytes into, which holds the names and no more
 pub names_cut : (vessels : ℕ) (l : List ℕ) → length l ≡ name_size * vessels → first_chunks name_size (length l / name_size) l ≡ names_in vessels l
