@@ -47,26 +47,27 @@ number_put l items at part i width left value fits ep sized inv h =
     let size = length_bytes width value in
     part_put l items (bytes_of width value) at part (rw size fits) (ep ∙ sym size) (number_end items (bytes_of width value) i width left sized inv h)
 
--- the loop that puts what f makes of each item of a list, `size` numbers each
-module _ {A : Type 0} (f : A → List ℕ) (size : ℕ) (items : List A) (out goal : List ℕ) (at i : ℕ) where
-  pub item_turn : (after : List ℕ) (e : A) → i < length items → e ≡ get_or items i e → length (f e) ≡ size → after ≡ sets out (at + size * i) (f e)
-      → sets out (at + size * i) (flat_map f (drop i items)) ≡ goal → sets after (at + size * (i + 1)) (flat_map f (drop (i + 1) items)) ≡ goal
+-- the loop that puts what f makes of each item of a list, from k on
+module _ {A : Type 0} (f : A → List ℕ) (items : List A) (out : List ℕ) (k i : ℕ) where
+  pub item_turn : (d : A) → i < length items
+      → sets out k (flat_map f (drop i items)) ≡ sets (sets out k (f (get_or items i d))) (k + length (f (get_or items i d))) (flat_map f (drop (i + 1) items))
   unfolding flat_map
-  item_turn after e h is sized ea inv =
-      let p : at + size * (i + 1) ≡ at + size * i + length (f e) = rw (sized, add-one, mul-suc, add_assoc) in
-      rw (ea, p, sets_append) (rw (drop_more items i e h, ← is) at inv)
+  item_turn d h = rw (drop_more items i d h) (sym (sets_append (f (get_or items i d)) (flat_map f (drop (i + 1) items)) out k))
 
-  pub item_end : length items ≤ i → sets out (at + size * i) (flat_map f (drop i items)) ≡ goal → out ≡ goal
+  pub item_end : length items ≤ i → sets out k (flat_map f (drop i items)) ≡ out
   unfolding flat_map
-  item_end h e = rw (drop_of_length-le items h) at e
+  item_end h = rw (drop_of_length-le items h)
 
 -- and of each group of a list, `width` numbers each
 module _ {A : Type 0} (f : A → List ℕ) (size width : ℕ) (make : List ℕ → A) (count : ℕ) (l out goal : List ℕ) (at i : ℕ) where
   pub each_turn : (after : List ℕ) (e : A) → i < count → e ≡ make (drop (width * i) l) → length (f e) ≡ size → after ≡ sets out (at + size * i) (f e)
       → sets out (at + size * i) (flat_map f (drop i (groups width make count l))) ≡ goal
       → sets after (at + size * (i + 1)) (flat_map f (drop (i + 1) (groups width make count l))) ≡ goal
-  each_turn after e h is =
-      item_turn f size (groups width make count l) out goal at i after e (rw length_groups h) (is ∙ sym (group_at width make count l i e h))
+  each_turn after e h is sized ea inv =
+      let p : at + size * (i + 1) ≡ at + size * i + length (f e) = rw (sized, add-one, mul-suc, add_assoc) in
+      let here : get_or (groups width make count l) i e ≡ e = group_at width make count l i e h ∙ sym is in
+      let turn = item_turn f (groups width make count l) out (at + size * i) i e (rw length_groups h) in
+      rw (ea, p) (sym (rw here at turn) ∙ inv)
 
   pub each_end : count ≤ i → sets out (at + size * i) (flat_map f (drop i (groups width make count l))) ≡ goal → out ≡ goal
-  each_end h = item_end f size (groups width make count l) out goal at i (rw length_groups h)
+  each_end h e = sym (item_end f (groups width make count l) out (at + size * i) i (rw length_groups h)) ∙ e

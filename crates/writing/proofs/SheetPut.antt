@@ -3,7 +3,7 @@ use Rattle.std.proofs.Common.{ℕ, ◌+◌, ◌*◌, ◌<◌, ◌≤◌, arith, 
 use Rattle.std.proofs.lemmas.List.{get_or-map, length-map}
 use lib.Seq.{sets}
 use Rattle.fields.specs.declared.entries.Entry.{Entry}
-use Rattle.fields.specs.Movements.{entry_size, given_in, entries_given, entry_bytes, entries_bytes}
+use Rattle.fields.specs.Movements.{entry_size, no_entry, given_in, entries_given, entry_bytes, entries_bytes}
 use Rattle.fields.specs.Layout.{header_size, name_size, entries_start}
 use Rattle.fields.proofs.PutLaws.{length_bytes, put_then, item_turn, item_end}
 use Rattle.writing.specs.Writing.{count_given, header_bytes, sheet_of}
@@ -11,16 +11,16 @@ use Rattle.writing.specs.Writing.{count_given, header_bytes, sheet_of}
 pub length_entry : (e : Entry) → length (entry_bytes e) ≡ entry_size
 length_entry e = simp (length-append, length_bytes)
 
--- the loop that puts movements
-module _ (given : List (List ℕ)) (out goal : List ℕ) (at i : ℕ) where
-  pub entries_turn : (l : List ℕ) (e : Entry) → i < length given → e ≡ given_in (get_or given i []) → l ≡ sets out (at + entry_size * i) (entry_bytes e)
-      → sets out (at + entry_size * i) (entries_bytes (drop i (map given_in given))) ≡ goal
-      → sets l (at + entry_size * (i + 1)) (entries_bytes (drop (i + 1) (map given_in given))) ≡ goal
-  entries_turn l e h is el inv =
-      item_turn entry_bytes entry_size (map given_in given) out goal at i l e (rw length-map h) (is ∙ sym (get_or-map given_in given i [] e h)) (length_entry e) el inv
+-- the loop that puts movements, from k on
+module _ (given : List (List ℕ)) (out : List ℕ) (k i : ℕ) where
+  pub entries_turn : i < length given
+      → sets out k (entries_bytes (drop i (map given_in given))) ≡ sets (sets out k (entry_bytes (given_in (get_or given i [])))) (k + entry_size) (entries_bytes (drop (i + 1) (map given_in given)))
+  entries_turn h =
+      let turn = item_turn entry_bytes (map given_in given) out k i no_entry (rw length-map h) in
+      rw (get_or-map given_in given i [] no_entry h, length_entry (given_in (get_or given i []))) at turn
 
-  pub entries_end : length given ≤ i → sets out (at + entry_size * i) (entries_bytes (drop i (map given_in given))) ≡ goal → out ≡ goal
-  entries_end h e = item_end entry_bytes entry_size (map given_in given) out goal at i (rw length-map h) e
+  pub entries_end : length given ≤ i → sets out k (entries_bytes (drop i (map given_in given))) ≡ out
+  entries_end h = item_end entry_bytes (map given_in given) out k i (rw length-map h)
 
 pub ruleset lengths = (length-append)
 
