@@ -1,5 +1,5 @@
 -- Laws of names: what std counts, tests and compares as document 01 does, and the part of the bytes that is a name. Assumes nothing.
-use Rattle.std.proofs.Common.{ℕ, ◌+◌, ◌<◌, get_or, arith, ◌≡◌, refl, sym, ◌∙◌, Bool, true, false, not, ◌||◌, cond, List, [], ◌∷◌, eqb, ltb, lt-ltb, eqb-true, length, drop, ◌*◌, ◌/◌, ◌≤◌, ◌++◌, take, ap, length-take, take-append-drop}
+use Rattle.std.proofs.Common.{ℕ, ◌+◌, ◌<◌, get_or, arith, ◌≡◌, refl, sym, ◌∙◌, Bool, true, false, ◌||◌, cond, List, [], ◌∷◌, eqb, ltb, lt-ltb, length, drop, ◌*◌, ◌/◌, ◌≤◌, ◌++◌, take, ap, length-take, take-append-drop}
 use Rattle.std.proofs.lemmas.Bool.{eqb-false}
 use Rattle.std.proofs.lemmas.List.{drop_more, drop_all}
 use Rattle.std.specs.Char.{is_ascii_graphic}
@@ -25,17 +25,13 @@ letters_counted (b ∷ s) = go (graphic b) (letters_counted s)
     go true ih = omega (arith, ih)
     go false ih = refl
 
--- the two ways out of `well_formed`: the name is cut behind its letters
-module _ (s front rest : List ℕ) (n : ℕ) (e : Bool) (is : n ≡ letters s) (cut : length front ≡ n) (says : e ≡ eqb (length front) 0) where
-  pub no_letters : e ≡ true → not e ≡ well_formed s
-  unfolding well_formed
-  no_letters q = let z : letters s ≡ 0 = omega (arith, eqb-true (length front) 0 (sym says ∙ q)) in rw (q, z)
-
-  pub letters_then : (r : Bool) → e ≡ false → rest ≡ drop n s → r ≡ list_all (λ b. eqb b 0) rest → r ≡ well_formed s
-  unfolding well_formed all_zero
-  letters_then r q behind zeros =
-      let p : ltb 0 (letters s) ≡ true = lt-ltb 0 (letters s) (omega (arith, eqb-false (length front) 0 (sym says ∙ q))) in
-      zeros ∙ simp (behind, is, p)
+-- of a name with letters, cut behind them, the zeros are left to tell
+pub some_letters : (s front rest : List ℕ) (n : ℕ) (none r : Bool) → n ≡ letters s → length front ≡ n → none ≡ eqb (length front) 0 → none ≡ false
+    → rest ≡ drop n s → r ≡ list_all (λ b. eqb b 0) rest → r ≡ well_formed s
+unfolding well_formed all_zero
+some_letters s front rest n none r is cut says some behind zeros =
+    let p : ltb 0 (letters s) ≡ true = lt-ltb 0 (letters s) (omega (arith, eqb-false (length front) 0 (sym says ∙ some))) in
+    zeros ∙ simp (behind, is, p)
 
 -- what std finds among the names behind
 pub used_found : (name : List ℕ) (behind : List (List ℕ)) (r : Bool) → r ≡ list_any (λ other. pointwise eqb other name) behind → r ≡ used_in name behind

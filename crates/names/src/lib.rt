@@ -14,6 +14,7 @@ pub fn letter_count(name: &[u8]) -> usize
 }
 
 // Whether the name is one such byte at least, then zeros.
+#[tactic(auto, unfolding(crate::specs::Names::well_formed))]
 fn well_formed(name: &[u8; NAME_SIZE]) -> bool
     ensures { result ≡ well_formed name.now }
 {
