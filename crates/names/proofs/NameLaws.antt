@@ -1,5 +1,5 @@
 -- Laws of names: what std counts, tests and compares as document 01 does, and the part of the bytes that is a name. Assumes nothing.
-use Rattle.std.proofs.Common.{ℕ, ◌+◌, ◌<◌, get_or, arith, ◌≡◌, refl, sym, ◌∙◌, Bool, true, false, ◌||◌, cond, List, [], ◌∷◌, eqb, ltb, lt-ltb, length, drop, ◌*◌, ◌/◌, ◌≤◌, ◌++◌, take, ap, length-take, take-append-drop}
+use Rattle.std.proofs.Common.{ℕ, ◌+◌, ◌<◌, get_or, arith, ◌≡◌, refl, sym, ◌∙◌, Bool, true, false, ◌||◌, List, [], ◌∷◌, eqb, ltb, lt-ltb, length, drop, ◌*◌, ◌/◌, ◌≤◌, ◌++◌, take, ap, length-take, take-append-drop}
 use Rattle.std.proofs.lemmas.Bool.{eqb-false}
 use Rattle.std.proofs.lemmas.List.{drop_more, drop_all}
 use Rattle.std.specs.Char.{is_ascii_graphic}
@@ -7,7 +7,7 @@ use Rattle.std.specs.Cmp.Lexicographic.{pointwise}
 use Rattle.std.specs.List.{list_all, list_any, prefix_len}
 use Rattle.book.specs.Head.{all_zero}
 use Rattle.fields.specs.Bytes.{exists}
-use Rattle.names.specs.Names.{graphic, letters, one_more_if, well_formed, used_in, name_off, names_off, names_in}
+use Rattle.names.specs.Names.{letters, well_formed, used_in, name_off, names_off, names_in}
 use Rattle.fields.specs.Layout.{name_size}
 use Rattle.std.specs.Simd.{first_chunks}
 use Rattle.fields.proofs.ChunkLaws.{chunks_taken}
@@ -19,11 +19,7 @@ use Rattle.fields.proofs.ByteLaws.{slices_compared, same_either}
 pub letters_counted : (s : List ℕ) → prefix_len is_ascii_graphic s ≡ letters s
 unfolding letters
 letters_counted [] = refl
-letters_counted (b ∷ s) = go (graphic b) (letters_counted s)
-  where
-    go : (t : Bool) → prefix_len is_ascii_graphic s ≡ letters s → cond t (1 + prefix_len is_ascii_graphic s) 0 ≡ one_more_if t (letters s)
-    go true ih = omega (arith, ih)
-    go false ih = refl
+letters_counted (b ∷ s) = let ih = letters_counted s in grind (arith, ih)
 
 -- of a name with letters, cut behind them, the zeros are left to tell
 pub some_letters : (s front rest : List ℕ) (n : ℕ) (none r : Bool) → n ≡ letters s → length front ≡ n → none ≡ eqb (length front) 0 → none ≡ false
