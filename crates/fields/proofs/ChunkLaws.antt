@@ -1,10 +1,9 @@
 -- Laws of a slice cut into arrays, as std cuts it: what is made of each array is what is made of each group of the flat list.
 -- Assumes nothing.
-use Rattle.std.proofs.Common.{ℕ, zero, suc, ◌*◌, ◌/◌, ◌<◌, ◌≡◌, refl, List, [], map, length, get_or, take, drop, arith, get_or-drop, drop-drop}
+use Rattle.std.proofs.Common.{ℕ, zero, suc, ◌*◌, ◌/◌, ◌≡◌, refl, List, map, length, take, drop, arith, get_or-drop, drop-drop}
 use Rattle.std.proofs.lemmas.List.{get_or-take}
 use Rattle.std.specs.Simd.{first_chunks}
 use Rattle.fields.specs.Bytes.{value_in, groups}
-use Rattle.fields.proofs.GroupLaws.{group_at}
 use Rattle.fields.specs.Movements.{entry_size, given_size, entry_in, entries_in, given_in, entries_given}
 
 -- of an f that sees no further than its array
@@ -33,9 +32,6 @@ entry_chunks = map_chunks entry_size entry_in entry_taken
 pub given_chunks : (count : ℕ) (l : List ℕ) → map given_in (first_chunks given_size count l) ≡ entries_given count l
 given_chunks = map_chunks given_size given_in given_taken
 
--- the movements of bytes that hold so many and no more, and one of them by its index
+-- the movements of bytes that hold so many and no more
 pub entries_cut : (count : ℕ) (l : List ℕ) → length l ≡ entry_size * count → map entry_in (first_chunks entry_size (length l / entry_size) l) ≡ entries_in count l
 entries_cut count l e = let same : length l / entry_size ≡ count = omega arith in rw same (entry_chunks count l)
-
-pub entry_chunk : (count : ℕ) (l : List ℕ) (i : ℕ) → i < count → entry_in (get_or (first_chunks entry_size count l) i []) ≡ entry_in (drop (entry_size * i) l)
-entry_chunk count l i h = rw (chunks_taken, group_at entry_size (take entry_size) count l i [] h) (entry_taken (drop (entry_size * i) l))

@@ -35,22 +35,27 @@ module _ (checks : Entry → List Check) (ok : (e : Entry) → T (named (checks 
   each_passed (e ∷ es) z zero h = passed_first (checks e) (entries_checks checks es) (ok e) z
   each_passed (e ∷ es) z (suc i) h = each_passed es (passed_second (checks e) (entries_checks checks es) (ok e) z) i (omega arith)
 
--- a scan of movements for one that fails a check: those left, from movement i on, tell what all do
-module _ (checks : Entry → List Check) (ok : (e : Entry) → T (named (checks e))) (make : List ℕ → Entry) (l : List (List ℕ)) (i : ℕ) (e : Entry) (n : ℕ) where
-  module _ (left : first (entries_checks checks (map make (drop i l))) ≡ first (entries_checks checks (map make l))) (h : i < length l) (is : e ≡ make (get_or l i [])) (says : n ≡ first (checks e)) where
-    one : if_zero n (first (entries_checks checks (map make (drop (i + 1) l)))) n ≡ first (entries_checks checks (map make l))
-    one = rw (says, is, ← next_check checks ok) (rw (drop_more l i [] h) at left)
+-- a scan of movements for one that fails a check: what those left tell, from movement i on, by what movement i does
+module _ (checks : Entry → List Check) (make : List ℕ → Entry) (l : List (List ℕ)) (i : ℕ) where
+  abbrev left : ℕ → ℕ
+  left j = first (entries_checks checks (map make (drop j l)))
 
-    pub check_turn : n ≡ 0 → first (entries_checks checks (map make (drop (i + 1) l))) ≡ first (entries_checks checks (map make l))
+  abbrev here : ℕ
+  here = first (checks (make (get_or l i [])))
+
+  module _ (ok : (e : Entry) → T (named (checks e))) (h : i < length l) where
+    one : left i ≡ if_zero here (left (i + 1)) here
+    one = rw (drop_more l i [] h) (next_check checks ok (make (get_or l i [])) (map make (drop (i + 1) l)))
+
+    pub check_turn : here ≡ 0 → left i ≡ left (i + 1)
     check_turn z = rw z at one
 
-    pub check_stop : (n ≡ 0 → ⊥) → n ≡ first (entries_checks checks (map make l))
-    check_stop z = not_zero n (first (entries_checks checks (map make (drop (i + 1) l)))) n z ∙ one
+    pub check_stop : (here ≡ 0 → ⊥) → left i ≡ here
+    check_stop z = one ∙ sym (not_zero here (left (i + 1)) here z)
 
-pub check_end : (checks : Entry → List Check) (make : List ℕ → Entry) (l : List (List ℕ)) (i : ℕ)
-    → first (entries_checks checks (map make (drop i l))) ≡ first (entries_checks checks (map make l)) → length l ≤ i → 0 ≡ first (entries_checks checks (map make l))
-unfolding entries_checks
-check_end checks make l i left h = rw (drop_of_length-le l h) at left
+  pub check_end : length l ≤ i → left i ≡ 0
+  unfolding entries_checks
+  check_end h = rw (drop_of_length-le l h)
 
 -- What the checks of a movement given tell once they are passed.
 pub record Sound (vessels : ℕ) (e : Entry) : Type 0 where

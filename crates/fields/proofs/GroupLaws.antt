@@ -1,8 +1,8 @@
--- Laws of a list cut into groups: how many there are, and which is which; and of a scan of a list. Assumes nothing.
-use Rattle.std.proofs.Common.{ℕ, zero, suc, ◌+◌, ◌*◌, ◌<◌, ◌≤◌, mul-zero, mul-suc, add_comm, arith, ◌≡◌, refl, sym, ap, ap₂, ◌∙◌, Bool, true, false, List, ◌∷◌, ◌++◌, length, get_or, drop, drop_of_length-le, length-drop, drop-drop}
+-- Laws of a list cut into groups: how many there are, and which is which. Assumes nothing.
+use Rattle.std.proofs.Common.{ℕ, zero, suc, ◌+◌, ◌*◌, ◌<◌, ◌≤◌, mul-zero, mul-suc, add_comm, arith, ◌≡◌, refl, ap, ap₂, ◌∙◌, List, ◌∷◌, ◌++◌, length, get_or, drop, length-drop, drop-drop}
 use Rattle.std.proofs.lemmas.List.{drop_more}
 use lib.Seq.{drop-append-le}
-use Rattle.fields.specs.Bytes.{groups, exists}
+use Rattle.fields.specs.Bytes.{groups}
 
 module _ {A : Type 0} (size : ℕ) (f : List ℕ → A) where
   pub length_groups : (count : ℕ) (l : List ℕ) → length (groups size f count l) ≡ count
@@ -32,17 +32,3 @@ groups_append {A} size f same (suc count) l r h =
     let rest : size * count ≤ length (drop size l) = rw length-drop (omega arith) in
     ap₂ (λ (x : A) (xs : List A). x ∷ xs) (same l r one)
     (ap (groups size f count) (drop-append-le size l r one) ∙ groups_append size f same count (drop size l) r rest)
-
--- a scan of a list for an element that passes a test, which is told those behind it: a turn, a find, the end
-module _ {A : Type 0} (t : A → List A → Bool) (xs : List A) (i : ℕ) (d : A) (r m : Bool) where
-  pub scan_turn : i < length xs → r ≡ t (get_or xs i d) (drop (i + 1) xs) → r ≡ false → exists t (drop i xs) ≡ m → exists t (drop (i + 1) xs) ≡ m
-  unfolding exists
-  scan_turn h e q inv = rw (drop_more xs i d h, sym e ∙ q) at inv
-
-  pub scan_stop : i < length xs → r ≡ t (get_or xs i d) (drop (i + 1) xs) → r ≡ true → exists t (drop i xs) ≡ m → true ≡ m
-  unfolding exists
-  scan_stop h e q inv = rw (drop_more xs i d h, sym e ∙ q) at inv
-
-pub scan_end : {A : Type 0} (t : A → List A → Bool) (xs : List A) (i : ℕ) (m : Bool) → length xs ≤ i → exists t (drop i xs) ≡ m → false ≡ m
-unfolding exists
-scan_end t xs i m h inv = rw (drop_of_length-le xs h) at inv

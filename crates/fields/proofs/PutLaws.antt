@@ -1,12 +1,11 @@
 -- Laws of bytes put one behind the other: two runs of stores are one, a part written whole is a run, and a turn of each loop that puts bytes.
 -- Assumes nothing.
 use mathlib.Core.List.{flat_map}
-use Rattle.std.proofs.Common.{ℕ, zero, suc, ◌+◌, ◌-◌, ◌*◌, ◌/◌, ◌%◌, ◌<◌, ◌≤◌, add-zero, add-suc, suc-add, add_assoc, mul-suc, add-one, arith, ◌≡◌, refl, sym, ap, ◌∙◌, List, [], ◌∷◌, ◌++◌, append_assoc, append-nil, length, get_or, take, drop, set, drop_of_length-le, drop-drop, take_all}
+use Rattle.std.proofs.Common.{ℕ, zero, suc, ◌+◌, ◌-◌, ◌/◌, ◌%◌, ◌<◌, ◌≤◌, add-zero, add-suc, suc-add, arith, ◌≡◌, refl, sym, ap, ◌∙◌, List, [], ◌∷◌, ◌++◌, append_assoc, append-nil, length, get_or, take, drop, set, drop_of_length-le, drop-drop, take_all}
 use Rattle.std.proofs.lemmas.List.{take_more_set, drop_more}
 use lib.Seq.{sets, sets-eq}
 use borrow.Rule.Slice.PartMut.{put_mid}
-use Rattle.fields.specs.Bytes.{bytes_of, groups}
-use Rattle.fields.proofs.GroupLaws.{group_at, length_groups}
+use Rattle.fields.specs.Bytes.{bytes_of}
 
 pub length_bytes : (w x : ℕ) → length (bytes_of w x) ≡ w
 unfolding bytes_of
@@ -18,16 +17,8 @@ sets_append [] b l i = rw add-zero
 sets_append (x ∷ a) b l i = rw (add-suc, ← suc-add) (sets_append a b (set l i x) (suc i))
 
 -- what is put behind a is put as one with it
-pub put_then : (l l₁ l₂ a b : List ℕ) (i j : ℕ) → j ≡ i + length a → l₁ ≡ sets l i a → l₂ ≡ sets l₁ j b → l₂ ≡ sets l i (a ++ b)
-put_then l l₁ l₂ a b i j ej e₁ e₂ = e₂ ∙ rw (e₁, ej) (sets_append a b l i)
-
-pub number_then : (l l₁ l₂ b : List ℕ) (i j w x : ℕ) → j ≡ i + w → l₁ ≡ sets l i (bytes_of w x) → l₂ ≡ sets l₁ j b → l₂ ≡ sets l i (bytes_of w x ++ b)
-number_then l l₁ l₂ b i j w x ej e₁ e₂ = put_then l l₁ l₂ (bytes_of w x) b i j (rw length_bytes ej) e₁ e₂
-
-pub three_numbers : (l l₁ l₂ l₃ : List ℕ) (i j k v w u a b c : ℕ) → l₁ ≡ sets l i (bytes_of v a) → l₂ ≡ sets l₁ j (bytes_of w b) → l₃ ≡ sets l₂ k (bytes_of u c)
-    → j ≡ i + v → k ≡ j + w → l₃ ≡ sets l i (bytes_of v a ++ bytes_of w b ++ bytes_of u c)
-three_numbers l l₁ l₂ l₃ i j k v w u a b c e₁ e₂ e₃ ej ek =
-    simp append_assoc (number_then l l₁ l₃ (bytes_of w b ++ bytes_of u c) i j v a ej e₁ (number_then l₁ l₂ l₃ (bytes_of u c) j k w b ek e₂ e₃))
+pub put_then : (l a b : List ℕ) (i j : ℕ) → j ≡ i + length a → sets (sets l i a) j b ≡ sets l i (a ++ b)
+put_then l a b i j e = rw e (sets_append a b l i)
 
 -- a part of a list that is written whole
 pub part_put : (l new bytes : List ℕ) (at width : ℕ) → at + length bytes ≤ length l → width ≡ length bytes → new ≡ bytes → put_mid at width l new ≡ sets l at bytes
@@ -55,26 +46,13 @@ number_put l items at part i width left value fits ep sized inv h =
     let size = length_bytes width value in
     part_put l items (bytes_of width value) at part (rw size fits) (ep ∙ sym size) (number_end items (bytes_of width value) i width left sized inv h)
 
--- the loop that puts what f makes of each item of a list, `size` numbers each
-module _ {A : Type 0} (f : A → List ℕ) (size : ℕ) (items : List A) (out goal : List ℕ) (at i : ℕ) where
-  pub item_turn : (after : List ℕ) (e : A) → i < length items → e ≡ get_or items i e → length (f e) ≡ size → after ≡ sets out (at + size * i) (f e)
-      → sets out (at + size * i) (flat_map f (drop i items)) ≡ goal → sets after (at + size * (i + 1)) (flat_map f (drop (i + 1) items)) ≡ goal
+-- the loop that puts what f makes of each item of a list, from k on
+module _ {A : Type 0} (f : A → List ℕ) (items : List A) (out : List ℕ) (k i : ℕ) where
+  pub item_turn : (d : A) → i < length items
+      → sets out k (flat_map f (drop i items)) ≡ sets (sets out k (f (get_or items i d))) (k + length (f (get_or items i d))) (flat_map f (drop (i + 1) items))
   unfolding flat_map
-  item_turn after e h is sized ea inv =
-      let p : at + size * (i + 1) ≡ at + size * i + length (f e) = rw (sized, add-one, mul-suc, add_assoc) in
-      rw (ea, p, sets_append) (rw (drop_more items i e h, ← is) at inv)
+  item_turn d h = rw (drop_more items i d h) (sym (sets_append (f (get_or items i d)) (flat_map f (drop (i + 1) items)) out k))
 
-  pub item_end : length items ≤ i → sets out (at + size * i) (flat_map f (drop i items)) ≡ goal → out ≡ goal
+  pub item_end : length items ≤ i → sets out k (flat_map f (drop i items)) ≡ out
   unfolding flat_map
-  item_end h e = rw (drop_of_length-le items h) at e
-
--- and of each group of a list, `width` numbers each
-module _ {A : Type 0} (f : A → List ℕ) (size width : ℕ) (make : List ℕ → A) (count : ℕ) (l out goal : List ℕ) (at i : ℕ) where
-  pub each_turn : (after : List ℕ) (e : A) → i < count → e ≡ make (drop (width * i) l) → length (f e) ≡ size → after ≡ sets out (at + size * i) (f e)
-      → sets out (at + size * i) (flat_map f (drop i (groups width make count l))) ≡ goal
-      → sets after (at + size * (i + 1)) (flat_map f (drop (i + 1) (groups width make count l))) ≡ goal
-  each_turn after e h is =
-      item_turn f size (groups width make count l) out goal at i after e (rw length_groups h) (is ∙ sym (group_at width make count l i e h))
-
-  pub each_end : count ≤ i → sets out (at + size * i) (flat_map f (drop i (groups width make count l))) ≡ goal → out ≡ goal
-  each_end h = item_end f size (groups width make count l) out goal at i (rw length_groups h)
+  item_end h = rw (drop_of_length-le items h)

@@ -4,7 +4,7 @@ ghost use Rattle.std.proofs.lemmas.List.Edits.{sets};
 ghost use Rattle.fields.specs.Bytes.{value_in, bytes_of};
 
 // The number in the byte at `at`.
-#[tactic(auto, using(crate::proofs::ByteLaws::value_one))]
+#[tactic(auto, using(crate::proofs::ByteLaws::reads), unfolding(crate::specs::Bytes::value_in))]
 pub fn read8(s: &[u8], at: usize) -> u32
     requires { at + 1 ≤ length s.now }
     ensures { (result ≡ value_in 1 (drop at s.now)) × (result < 256) }
@@ -13,7 +13,7 @@ pub fn read8(s: &[u8], at: usize) -> u32
 }
 
 // The number in the two bytes from `at` on.
-#[tactic(auto, using(crate::proofs::ByteLaws::value_two))]
+#[tactic(auto, using(crate::proofs::ByteLaws::reads), unfolding(crate::specs::Bytes::value_in))]
 pub fn read16(s: &[u8], at: usize) -> u32
     requires { at + 2 ≤ length s.now }
     ensures { (result ≡ value_in 2 (drop at s.now)) × (result < 65536) }
@@ -22,7 +22,7 @@ pub fn read16(s: &[u8], at: usize) -> u32
 }
 
 // The number in the four bytes from `at` on.
-#[tactic(auto, using(crate::proofs::ByteLaws::value_four))]
+#[tactic(auto, using(crate::proofs::ByteLaws::reads), unfolding(crate::specs::Bytes::value_in))]
 pub fn read32(s: &[u8], at: usize) -> u32
     requires { at + 4 ≤ length s.now }
     ensures { result ≡ value_in 4 (drop at s.now) }

@@ -67,6 +67,7 @@ fn check_given(e: Entry, vessels: u32) -> Result<(), Refusal>
 }
 
 // The first check that a movement of a sheet fails, of all.
+#[tactic(auto, using(crate::proofs::EntryLaws::named_entry, crate::proofs::EntryLaws::check_turn, crate::proofs::EntryLaws::check_stop, crate::proofs::EntryLaws::check_end, refusal::proofs::Refusals::outcomes))]
 pub fn check_entries(entries: &[[u8; ENTRY_SIZE]], vessels: u32) -> Result<(), Refusal>
     ensures { outcome_number result ≡ first (entries_checks (entry_checks vessels) (map entry_in entries.now)) }
 {
@@ -77,6 +78,7 @@ pub fn check_entries(entries: &[[u8; ENTRY_SIZE]], vessels: u32) -> Result<(), R
 }
 
 // The first check that a movement given fails, of all.
+#[tactic(auto, using(crate::proofs::EntryLaws::named_given, crate::proofs::EntryLaws::check_turn, crate::proofs::EntryLaws::check_stop, crate::proofs::EntryLaws::check_end, refusal::proofs::Refusals::outcomes))]
 pub fn check_all_given(all: &[[u32; GIVEN_SIZE]], vessels: u32) -> Result<(), Refusal>
     ensures { outcome_number result ≡ first (entries_checks (given_checks vessels) (map given_in all.now)) }
 {

@@ -14,6 +14,7 @@ pub fn letter_count(name: &[u8]) -> usize
 }
 
 // Whether the name is one such byte at least, then zeros.
+#[tactic(auto, unfolding(crate::specs::Names::well_formed))]
 fn well_formed(name: &[u8; NAME_SIZE]) -> bool
     ensures { result ≡ well_formed name.now }
 {
@@ -30,7 +31,7 @@ fn name_off(name: &[u8; NAME_SIZE], behind: &[[u8; NAME_SIZE]]) -> bool
 }
 
 // Whether a name is ill-formed or used twice.
-#[tactic(auto, using(fields::proofs::GroupLaws::scan_turn, fields::proofs::GroupLaws::scan_stop, fields::proofs::GroupLaws::scan_end, std::proofs::lemmas::List::take_rest))]
+#[tactic(auto, using(crate::proofs::NameLaws::names_more, crate::proofs::NameLaws::names_none, std::proofs::lemmas::List::take_rest))]
 pub fn names_off(names: &[[u8; NAME_SIZE]]) -> bool
     ensures { result ≡ names_off names.now }
 {

@@ -12,6 +12,7 @@ use writer::Draft;
 mod writer; // writer.rt: the checks of what is to be written, and its bytes
 
 // Writes a sheet at the start of `out`; the bytes behind it remain, and a refusal writes nothing.
+#[tactic(auto, using(crate::proofs::WriteLaws::put_fits, crate::proofs::WriteLaws::write_done))]
 pub fn try_write(
     rule: u32,
     vessels: u32,

@@ -107,6 +107,7 @@ impl<'a> Draft<'a> {
     }
 }
 
+#[tactic(auto, using(fields::proofs::PutLaws::put_then, fields::proofs::PutLaws::length_bytes, std::proofs::Common::append_assoc))]
 fn put_counts(out: &mut [u8; HEADER_SIZE], header: Header)
     ensures { out.new ≡ sets out.old rule_at (count_bytes header.rule header.vessels header.movements) }
 {
@@ -115,6 +116,7 @@ fn put_counts(out: &mut [u8; HEADER_SIZE], header: Header)
     put_number(out, MOVEMENTS_AT, 4, header.movements);
 }
 
+#[tactic(auto, using(fields::proofs::PutLaws::put_then, fields::proofs::PutLaws::length_bytes, std::proofs::Common::append_assoc))]
 fn put_layout(out: &mut [u8; HEADER_SIZE], header: Header)
     requires { Within header.vessels header.movements }
     ensures { out.new ≡ sets out.old names_at (layout_bytes header.vessels header.movements) }
@@ -127,6 +129,7 @@ fn put_layout(out: &mut [u8; HEADER_SIZE], header: Header)
 }
 
 // The bytes of a header.
+#[tactic(auto, using(fields::proofs::PutLaws::put_then, fields::proofs::PutLaws::length_bytes, std::proofs::Common::append_assoc, crate::proofs::SheetPut::lengths, crate::proofs::SheetPut::filled))]
 fn header_bytes(header: Header) -> [u8; HEADER_SIZE]
     requires { Within header.vessels header.movements }
     ensures { result ≡ header_bytes header.rule header.vessels header.movements }
@@ -151,6 +154,7 @@ fn entry_bytes(e: Entry) -> [u8; ENTRY_SIZE]
 }
 
 // Puts the movements given into the bytes from `at` on. Not into arrays: std's mutable chunks tell nothing of what the slice ends as.
+#[tactic(auto, using(crate::proofs::SheetPut::entries_turn, crate::proofs::SheetPut::entries_end))]
 fn put_entries(out: &mut [u8], at: usize, movements: &[[u32; GIVEN_SIZE]])
     requires { at + entry_size * length movements.now ≤ length out.old }
     ensures { out.new ≡ sets out.old at (entries_bytes (map given_in movements.now)) }

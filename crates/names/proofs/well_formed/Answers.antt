@@ -1,8 +1,8 @@
--- No letter, or letters and the test of what is behind them.
+-- Letters, and the test of what is behind them.
 use Rattle.std.proofs.Common.{rules, tests, eqb}
 use Rattle.std.proofs.lemmas.Iterator.{YieldsList-from_slice}
 use Rattle.std.proofs.lemmas.Iterator.Search.{all_from_yields_List}
-use Rattle.names.proofs.NameLaws.{no_letters, letters_then}
+use Rattle.names.proofs.NameLaws.{some_letters}
 use Rattle.names.proofs.well_formed.Goals as goal
 
 pub returns-then-not-is_empty : goal.returns-then-not-is_empty
@@ -11,7 +11,4 @@ returns-then-not-is_empty c =
     all_from_yields_List (λ b. eqb b 0) _ _ c.all.result c.all.ensures.ran (YieldsList-from_slice c.split_at.result.1.now c.iter.ensures.rest)
     (λ x b q k. search (rules, tests))
     in
-    search (rules, letters_then)
-
-pub returns-else-not-is_empty : goal.returns-else-not-is_empty
-returns-else-not-is_empty c = search (rules, no_letters)
+    search (rules, some_letters)
