@@ -1,5 +1,5 @@
 -- The movements, the header and the whole sheet, from parts put one behind the other. Assumes nothing.
-use Rattle.std.proofs.Common.{ℕ, ◌+◌, ◌*◌, ◌<◌, ◌≤◌, arith, ◌≡◌, refl, sym, ◌∙◌, List, [], ◌++◌, map, length, get_or, drop, length-append}
+use Rattle.std.proofs.Common.{ℕ, ◌+◌, ◌*◌, ◌<◌, ◌≤◌, arith, ◌≡◌, ◌∙◌, List, [], ◌++◌, map, length, get_or, drop, length-append}
 use Rattle.std.proofs.lemmas.List.{get_or-map, length-map}
 use lib.Seq.{sets}
 use Rattle.fields.specs.declared.entries.Entry.{Entry}
