@@ -89,7 +89,7 @@ impl<'a> Draft<'a> {
     }
 
     // Puts the sheet at the start of `out`.
-    #[tactic(auto, using(crate::proofs::SheetPut::sheet_put))]
+    #[tactic(auto, using(fields::proofs::PutLaws::puts), unfolding(crate::specs::Writing::sheet_of))]
     pub fn put(&self, out: &mut [u8])
         requires { Within self.now.vessels (count_given self.now.numbers.now) × (length self.now.names.now ≡ name_size * self.now.vessels)
             × (sheet_size self.now.vessels (count_given self.now.numbers.now) ≤ length out.old) }
@@ -107,7 +107,7 @@ impl<'a> Draft<'a> {
     }
 }
 
-#[tactic(auto, using(fields::proofs::PutLaws::put_then, fields::proofs::PutLaws::length_bytes, std::proofs::Common::append_assoc))]
+#[tactic(auto, using(fields::proofs::PutLaws::puts))]
 fn put_counts(out: &mut [u8], header: Header)
     requires { header_size ≤ length out.old }
     ensures { out.new ≡ sets out.old rule_at (count_bytes header.rule header.vessels header.movements) }
@@ -117,7 +117,7 @@ fn put_counts(out: &mut [u8], header: Header)
     put_number(out, MOVEMENTS_AT, 4, header.movements);
 }
 
-#[tactic(auto, using(fields::proofs::PutLaws::put_then, fields::proofs::PutLaws::length_bytes, std::proofs::Common::append_assoc))]
+#[tactic(auto, using(fields::proofs::PutLaws::puts))]
 fn put_layout(out: &mut [u8], header: Header)
     requires { (header_size ≤ length out.old) × Within header.vessels header.movements }
     ensures { out.new ≡ sets out.old names_at (layout_bytes header.vessels header.movements) }
@@ -129,7 +129,7 @@ fn put_layout(out: &mut [u8], header: Header)
     put_number(out, LENGTH_AT, 4, size as u32);
 }
 
-#[tactic(auto, using(fields::proofs::PutLaws::put_then, fields::proofs::PutLaws::length_bytes, std::proofs::Common::append_assoc, crate::proofs::SheetPut::lengths))]
+#[tactic(auto, using(fields::proofs::PutLaws::puts))]
 fn put_header(out: &mut [u8], header: Header)
     requires { (header_size ≤ length out.old) × Within header.vessels header.movements }
     ensures { out.new ≡ sets out.old 0 (header_bytes header.rule header.vessels header.movements) }
@@ -140,7 +140,7 @@ fn put_header(out: &mut [u8], header: Header)
 }
 
 // Puts a movement into the twelve bytes from `at` on. Not into an array: std's mutable chunks tell nothing of what the slice ends as.
-#[tactic(auto, using(fields::proofs::PutLaws::put_then, fields::proofs::PutLaws::length_bytes, std::proofs::Common::append_assoc))]
+#[tactic(auto, using(fields::proofs::PutLaws::puts))]
 fn put_entry(out: &mut [u8], at: usize, e: Entry)
     requires { at + entry_size ≤ length out.old }
     ensures { out.new ≡ sets out.old at (entry_bytes e) }
