@@ -1,11 +1,11 @@
--- Laws of numbers in bytes: what std makes of the bytes read, and the comparison of two slices.
+-- Laws of bytes: which is read, and the comparison of two slices.
 -- Assumes nothing.
-use Rattle.std.proofs.Common.{ℕ, ◌+◌, ◌*◌, add-zero, arith, ◌≡◌, refl, List, [], ◌∷◌, eqb, get_or, drop, get_or-drop}
+use Rattle.std.proofs.Common.{ℕ, ◌≡◌, refl, List, [], ◌∷◌, eqb, get_or-drop}
 use Rattle.std.specs.Cmp.Lexicographic.{pointwise}
 use Rattle.book.specs.Head.{same}
 use Rattle.book.proofs.HeadLaws.{same_test, same_refl, same_eq}
 
--- what a read of a byte from an index on is by
+-- what a byte of a slice from an index on is
 pub ruleset reads = (get_or-drop)
 
 -- std's comparison of slices is that of lists

@@ -1,7 +1,7 @@
 -- Laws of bytes put one behind the other: two runs of stores are one, a part written whole is a run, and a turn of each loop that puts bytes.
 -- Assumes nothing.
 use mathlib.Core.List.{flat_map}
-use Rattle.std.proofs.Common.{ℕ, zero, suc, ◌+◌, ◌-◌, ◌/◌, ◌%◌, ◌<◌, ◌≤◌, add-zero, add-suc, suc-add, arith, ◌≡◌, refl, sym, ap, ◌∙◌, List, [], ◌∷◌, ◌++◌, append_assoc, append-nil, length, get_or, take, drop, set, drop_of_length-le, drop-drop, take_all}
+use Rattle.std.proofs.Common.{ℕ, zero, suc, ◌+◌, ◌-◌, ◌*◌, ◌/◌, ◌%◌, ◌<◌, ◌≤◌, add-zero, add-suc, suc-add, add_assoc, mul-suc, add-one, arith, ◌≡◌, refl, sym, ap, ◌∙◌, List, [], ◌∷◌, ◌++◌, append_assoc, append-nil, length-append, length, get_or, take, drop, set, drop_of_length-le, drop-drop, take_all}
 use Rattle.std.proofs.lemmas.List.{take_more_set, drop_more}
 use lib.Seq.{sets, sets-eq}
 use borrow.Rule.Slice.PartMut.{put_mid}
@@ -19,6 +19,9 @@ sets_append (x ∷ a) b l i = rw (add-suc, ← suc-add) (sets_append a b (set l 
 -- what is put behind a is put as one with it
 pub put_then : (l a b : List ℕ) (i j : ℕ) → j ≡ i + length a → sets (sets l i a) j b ≡ sets l i (a ++ b)
 put_then l a b i j e = rw e (sets_append a b l i)
+
+-- for parts put one behind the other
+pub ruleset puts = (put_then, length_bytes, length-append, append_assoc)
 
 -- a part of a list that is written whole
 pub part_put : (l new bytes : List ℕ) (at width : ℕ) → at + length bytes ≤ length l → width ≡ length bytes → new ≡ bytes → put_mid at width l new ≡ sets l at bytes

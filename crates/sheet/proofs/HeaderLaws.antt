@@ -1,24 +1,14 @@
 -- Laws of the header: what each check tells once it is passed, and the number at each way out. Assumes nothing.
-use Rattle.std.proofs.Common.{ℕ, ◌≤◌, arith, ◌≡◌, refl, sym, ap, ◌∙◌, Bool, false, not, List, [], ◌∷◌, ◌++◌, ltb-false, eq-eqb, eqb-true, le-ltb, eqb, ltb, length, take, drop}
+use Rattle.std.proofs.Common.{ℕ, ◌≤◌, arith, ◌≡◌, refl, sym, ap, ◌∙◌, Bool, false, not, List, [], ◌∷◌, ◌++◌, ltb-false, eq-eqb, le-ltb, eqb, ltb, length, take, drop}
 use Rattle.std.specs.Cmp.Lexicographic.{pointwise}
 use Rattle.refusal.specs.Numbers.{◌if◌, first}
 use Rattle.refusal.proofs.Numbers.{neither, passes}
-use Rattle.book.proofs.HeadLaws.{openable, same_test}
+use Rattle.book.proofs.HeadLaws.{openable}
 use Rattle.book.specs.Head.{same, most_vessels, open_checks}
 use Rattle.fields.specs.Bytes.{value_in}
 use Rattle.fields.specs.Layout.{mark, mark_size, header_size, names_at, entries_at, length_at, sheet_size, entries_start}
 use Rattle.sheet.specs.Sheet.{rule_of, vessels_of, movements_of, no_sheet, layout_off, field_checks, header_checks}
-use Rattle.fields.proofs.ByteLaws.{slices_compared}
-
--- either list may be compared with the other
-same_either : (a b : List ℕ) → same a b ≡ same b a
-unfolding same
-same_either [] [] = refl
-same_either [] (y ∷ b) = refl
-same_either (x ∷ a) [] = refl
-same_either (x ∷ a) (y ∷ b) =
-    let e : eqb x y ≡ eqb y x = same_test (eqb x y) (eqb y x) (λ q. eq-eqb y x (sym (eqb-true x y q))) (λ q. eq-eqb x y (sym (eqb-true y x q))) in
-    rw (e, same_either a b)
+use Rattle.fields.proofs.ByteLaws.{slices_compared, same_either}
 
 pub unmarked : (s letters : List ℕ) (r : Bool) → header_size ≤ length s → letters ≡ mark → r ≡ pointwise eqb letters (take (length letters) s) → not r ≡ no_sheet s
 unfolding no_sheet

@@ -89,7 +89,7 @@ impl<'a> Draft<'a> {
     }
 
     // Puts the sheet at the start of `out`.
-    #[tactic(auto, using(crate::proofs::SheetPut::sheet_put))]
+    #[tactic(auto, using(fields::proofs::PutLaws::puts), unfolding(crate::specs::Writing::sheet_of))]
     pub fn put(&self, out: &mut [u8])
         requires { Within self.now.vessels (count_given self.now.numbers.now) × (length self.now.names.now ≡ name_size * self.now.vessels)
             × (sheet_size self.now.vessels (count_given self.now.numbers.now) ≤ length out.old) }
@@ -107,7 +107,7 @@ impl<'a> Draft<'a> {
     }
 }
 
-#[tactic(auto, using(fields::proofs::PutLaws::put_then, fields::proofs::PutLaws::length_bytes, std::proofs::Common::append_assoc))]
+#[tactic(auto, using(fields::proofs::PutLaws::puts))]
 fn put_counts(out: &mut [u8; HEADER_SIZE], header: Header)
     ensures { out.new ≡ sets out.old rule_at (count_bytes header.rule header.vessels header.movements) }
 {
@@ -116,7 +116,7 @@ fn put_counts(out: &mut [u8; HEADER_SIZE], header: Header)
     put_number(out, MOVEMENTS_AT, 4, header.movements);
 }
 
-#[tactic(auto, using(fields::proofs::PutLaws::put_then, fields::proofs::PutLaws::length_bytes, std::proofs::Common::append_assoc))]
+#[tactic(auto, using(fields::proofs::PutLaws::puts))]
 fn put_layout(out: &mut [u8; HEADER_SIZE], header: Header)
     requires { Within header.vessels header.movements }
     ensures { out.new ≡ sets out.old names_at (layout_bytes header.vessels header.movements) }
@@ -129,7 +129,7 @@ fn put_layout(out: &mut [u8; HEADER_SIZE], header: Header)
 }
 
 // The bytes of a header.
-#[tactic(auto, using(fields::proofs::PutLaws::put_then, fields::proofs::PutLaws::length_bytes, std::proofs::Common::append_assoc, crate::proofs::SheetPut::lengths, crate::proofs::SheetPut::filled))]
+#[tactic(auto, using(fields::proofs::PutLaws::puts, crate::proofs::SheetPut::filled))]
 fn header_bytes(header: Header) -> [u8; HEADER_SIZE]
     requires { Within header.vessels header.movements }
     ensures { result ≡ header_bytes header.rule header.vessels header.movements }
