@@ -152,7 +152,7 @@ fn put_entry(out: &mut [u8], at: usize, e: Entry)
     put_number(out, at + 8, 4, e.weight);
 }
 
-// Puts the movements given into the bytes from `at` on.
+// Puts the movements given into the bytes from `at` on, each at its place as in `put_entry`.
 #[tactic(auto, using(crate::proofs::SheetPut::entries_turn, crate::proofs::SheetPut::entries_end))]
 fn put_entries(out: &mut [u8], at: usize, movements: &[[u32; GIVEN_SIZE]])
     requires { at + entry_size * length movements.now ≤ length out.old }
