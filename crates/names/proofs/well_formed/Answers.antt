@@ -8,7 +8,7 @@ use Rattle.names.proofs.well_formed.Goals as goal
 pub returns-then-not-is_empty : goal.returns-then-not-is_empty
 returns-then-not-is_empty c =
     let zeros =
-    all_from_yields_List (λ b. eqb b 0) _ _ c.all.result c.all.ensures.ran (YieldsList-from_slice c.split_at.result.1.now c.iter.ensures.rest)
+    all_from_yields_List (λ b. eqb b 0) _ _ c.all.result c.all.ensures.ran (YieldsList-from_slice _ c.iter.ensures.rest)
     (λ x b q k. search (rules, tests))
     in
     search (rules, some_letters)
