@@ -1,18 +1,18 @@
 -- After a transfer on a book known to add up, the book is known to add up again, and the table is as long as before: so a run of many
 -- transfers makes checks 1 and 4 once.
 -- Assumes nothing.
-use Rattle.std.proofs.Common.{◌≡◌, refl, sym, ◌∙◌, List, ℕ, zero, suc, arith, length}
+use Rattle.std.proofs.Common.{◌≡◌, refl, List, ℕ, arith, length}
 use Rattle.table.specs.Pieces.{done}
 use Rattle.table.specs.Table.{places_of, flat}
 use Rattle.table.proofs.Pieces.{all_map}
-use Rattle.refusal.specs.Numbers.{first, if_zero}
+use Rattle.refusal.specs.Numbers.{first}
 use Rattle.book.specs.declared.Head.{Head}
 use Rattle.book.specs.declared.Transfer.{Transfer}
 use Rattle.book.specs.Head.{Book, Sized, head_of, book_of, empty_head, opened, open_checks}
 use Rattle.book.specs.Motion.{of_book}
 use Rattle.book.specs.Transfer.{motion_of}
 use Rattle.book.specs.Calls.{post, meaning}
-use Rattle.book.specs.Memory.{outcome, number_of, call_on}
+use Rattle.book.specs.Memory.{call_on}
 use Rattle.book.proofs.BalanceLaws.{balances_match, balance_held, fresh_head}
 use Rattle.book.proofs.Checks.{fit}
 use Rattle.book.proofs.Sound.{number, SoundBook, SizedBook, motion_light, post_number, keeps}
@@ -41,21 +41,14 @@ module _ (h : Head) (t : List ℕ) (k : Known h t) (x : Transfer) where
   pub known_after : Known (call_on h t (post x)).head (call_on h t (post x)).table
   known_after =
       let s = in_step (places_of t) h t (book_of h t) k.on k.sound (post x) in
-      on_known (places_of t) _ _ _ s.holds s.sound (go (number (places_of t) (book_of h t) (post x)) refl)
-    where
-      go : (n : ℕ) → number (places_of t) (book_of h t) (post x) ≡ n → SizedBook (if_zero n ((meaning (post x)).next (book_of h t)) (book_of h t))
-      go zero e = post_sized (places_of t) (book_of h t) x k.light e
-      go (suc n) e = k.light
+      on_known (places_of t) _ _ _ s.holds s.sound (grind (arith, post_sized (places_of t) (book_of h t) x k.light, k.light))
 
   pub length_after : length (call_on h t (post x)).table ≡ length t
   unfolding call_on
-  length_after = go (number_of h t (post x)) refl
-    where
-      go : (n : ℕ) → number_of h t (post x) ≡ n → length (outcome h t (meaning (post x)) n).table ≡ length t
-      go zero e =
-          let e' = sym (number_same (places_of t) h t (book_of h t) k.on k.sound (post x)) ∙ e in
-          (keeps (places_of t) (book_of h t) (post x) k.sound e').long t k.on.lies
-      go (suc n) e = refl
+  length_after =
+      let same = number_same (places_of t) h t (book_of h t) k.on k.sound (post x) in
+      let long = λ (e : number (places_of t) (book_of h t) (post x) ≡ 0). (keeps (places_of t) (book_of h t) (post x) k.sound e).long t k.on.lies in
+      grind (arith, same, long)
 
 -- a fresh book
 pub fresh : (places rule size : ℕ) → first (open_checks rule size) ≡ 0 → SoundBook places (opened rule size)

@@ -4,13 +4,13 @@
 -- small cases. `one_entry`: births of one vessel at different minutes, with ages that bring them to the same minute, are one entry of the
 -- weigh book.
 -- Assumes nothing.
-use Rattle.std.proofs.Common.{◌≡◌, refl, sym, ap, ◌∙◌, ◌≢◌, List, [], ◌∷◌, map, ℕ, zero, suc, ◌≤◌, ◌<◌, add-one, arith, lt-ltb, le-ltb}
+use Rattle.std.proofs.Common.{◌≡◌, refl, sym, ◌∙◌, ◌≢◌, List, [], ◌∷◌, map, ℕ, zero, suc, ◌≤◌, ◌<◌, add-one, arith, lt-ltb, le-ltb}
 use native.Mathlib.Nat.{sub-zero}
 use Rattle.table.specs.Pieces.{held}
 use Rattle.table.specs.Table.{pieces_of, flat, places_of}
 use Rattle.taking.specs.Selection.{precedes}
 use Rattle.taking.specs.Taking.{take_up_to, taken}
-use Rattle.refusal.specs.Numbers.{first, if_zero}
+use Rattle.refusal.specs.Numbers.{first}
 use Rattle.refusal.proofs.Numbers.{first_append}
 use Rattle.book.specs.declared.Head.{Head}
 use Rattle.book.specs.declared.Transfer.{Transfer}
@@ -29,11 +29,8 @@ use Rattle.book.proofs.Former.{bare_book}
 use Rattle.book.proofs.Cases.{Case, worked, seen, pieces}
 
 module _ (h : Head) (t : List ℕ) (s d m q : ℕ) (z : h.scale ≡ 0) where
-  abbrev book_number : ℕ
-  book_number = first (book_checks h t)
-
   -- on a book that adds up nothing is on the scale, so that 22 does not apply
-  own_number : book_number ≡ 0 → first ((meaning (post (unaged s d m q))).checks (places_of t) (book_of h t)) ≡ first ((former_meaning s d m q).checks (places_of t) (book_of h t))
+  own_number : first (book_checks h t) ≡ 0 → first ((meaning (post (unaged s d m q))).checks (places_of t) (book_of h t)) ≡ first ((former_meaning s d m q).checks (places_of t) (book_of h t))
   unfolding transfer_checks takes
   own_number e =
       let u = adds_up_told h t (book_passed h t e).1 in
@@ -46,18 +43,9 @@ module _ (h : Head) (t : List ℕ) (s d m q : ℕ) (z : h.scale ≡ 0) where
 
   same_number : number_of h t (post (unaged s d m q)) ≡ former_number h t s d m q
   same_number =
-      number_split h t (post (unaged s d m q))
-      ∙ go book_number own_number
-      ∙ ap (λ (n : ℕ). if_zero n own n) same_book
-      ∙ sym (first_append (former_book_checks h t) ((former_meaning s d m q).checks (places_of t) (book_of h t)) tt)
-    where
-      own : ℕ
-      own = first ((former_meaning s d m q).checks (places_of t) (book_of h t))
-
-      go : (n : ℕ) → (n ≡ 0 → first ((meaning (post (unaged s d m q))).checks (places_of t) (book_of h t)) ≡ own)
-          → if_zero n (first ((meaning (post (unaged s d m q))).checks (places_of t) (book_of h t))) n ≡ if_zero n own n
-      go zero f = f refl
-      go (suc n) f = refl
+      let split = number_split h t (post (unaged s d m q)) in
+      let former = first_append (former_book_checks h t) ((former_meaning s d m q).checks (places_of t) (book_of h t)) tt in
+      grind (arith, split, own_number, same_book, former)
 
   pub age_zero : call_on h t (post (unaged s d m q)) ≡ former_on h t s d m q
   unfolding call_on takes

@@ -1,14 +1,15 @@
 -- What walks beside the weigh book: a call that a sound book accepts moves both alike, and where a place is free the weigh book gives
 -- the call's number. Each kind of call has one clause of `walks`.
 -- Assumes nothing.
-use Rattle.std.proofs.Common.{◌≡◌, refl, sym, ap, ◌∙◌, subst, List, ℕ, zero, suc, ◌+◌, ◌≤◌, arith, T, length, le-ltb, ne_eqb}
+use Rattle.std.proofs.Common.{◌≡◌, refl, sym, ap, ◌∙◌, subst, List, ℕ, suc, ◌+◌, ◌≤◌, arith, T, length}
+use Rattle.std.proofs.lemmas.Bool.Decides.{nat_tests}
 use Rattle.table.specs.Pieces.{sum, born_at, held}
 use Rattle.taking.proofs.Handed.{handed_births}
 use Rattle.refusal.specs.Numbers.{Check, first, if_zero}
 use Rattle.refusal.proofs.Numbers.{named}
 use Rattle.book.specs.declared.Motion.{Motion}
 use Rattle.book.specs.Head.{Book, the_scale}
-use Rattle.book.specs.Motion.{Standing, of_book, pieces_after, book_after}
+use Rattle.book.specs.Motion.{Standing, of_book, book_after}
 use Rattle.book.specs.Transfer.{transfer_checks, motion_of}
 use Rattle.book.specs.Scale.{lift_checks, tip_checks, lift_motion, tip_motion, as_they_lie}
 use Rattle.book.specs.Calls.{Call, post, lift, tip, ask, tip_on, meaning}
@@ -54,13 +55,7 @@ motion_beside b rule m w r = record {
 
 -- where the table has a place, the number of what takes weight from a vessel is that of its own checks
 free_number : (places : ℕ) (b : Book) (m : Motion) (cs : List Check) (ok : T (named cs)) → length b.pieces + 1 ≤ places → taking_number places b m cs ok ≡ first cs
-free_number places b m cs ok h =
-    rw (taking_number_is places b m cs ok, ne_eqb places 0 (λ z. omega arith), le-ltb places (length (pieces_after b b.rule m)) (omega (arith, after_count b b.rule m)))
-    (go (first cs))
-  where
-    go : (n : ℕ) → if_zero n 0 n ≡ n
-    go zero = refl
-    go (suc n) = refl
+free_number places b m cs ok h = grind (arith, nat_tests, taking_number_is places b m cs ok, after_count b b.rule m)
 
 -- the weigh book has the same number, and moves only where that is 0
 foretold : (places : ℕ) (b : Book) (w : WeighBook) (c : Call) → number places b c ≡ weigh_number w c → Foretells places b w c
@@ -91,5 +86,5 @@ walks places b w (tip y) r =
         weighs = sym s ∙ tip_number places b y e;
         beside = subst (λ (n : ℕ). Beside (book_after b as_they_lie (tip_on b y)) (weighed w (tip_motion n y))) (r.weights the_scale) (motion_beside b as_they_lie (tip_on b y) w r);
       };
-      foretells = λ h k. foretold places b w (tip y) (rw (ne_eqb places 0 (λ z. let u = k (omega arith) in omega arith)) s);
+      foretells = λ h k. foretold places b w (tip y) (grind (arith, nat_tests, k, s));
     }

@@ -2,14 +2,14 @@
 -- the last that passes and the first that does not. A definition that is altered together with code and proofs fails here.
 -- (Pieces above the places show alone only past the most places: `too_many`.)
 -- Assumes nothing.
-use Rattle.std.proofs.Common.{◌≡◌, refl, Bool, true, false, ◌&&◌, cond, List, [], ◌∷◌, ◌++◌, map, ℕ, zero, suc, ◌≤◌, ◌<◌, ◌-◌, arith, leb, eqb, length, replicate, le-leb}
-use borrow.Author.Tests.{lt-leb}
+use Rattle.std.proofs.Common.{◌≡◌, refl, false, cond, List, [], ◌∷◌, ◌++◌, map, ℕ, ◌≤◌, ◌<◌, ◌-◌, arith, eqb, length, replicate}
+use Rattle.std.proofs.lemmas.Bool.Decides.{nat_tests}
 use Rattle.table.specs.Table.{most_places, pieces_of, places_of}
 use Rattle.refusal.specs.Numbers.{TOP, first}
 use Rattle.book.specs.declared.Head.{Head}
 use Rattle.book.specs.declared.Report.{Report}
 use Rattle.book.specs.declared.Report.TheVariants.{Held, Spread, Whole}
-use Rattle.book.specs.Head.{last_rule, most_vessels, the_scale, tab, balances_of, every, same, adds_up, empty_head, open_checks, opens, opening}
+use Rattle.book.specs.Head.{most_vessels, the_scale, tab, balances_of, every, same, adds_up, empty_head, opening}
 use Rattle.book.specs.Motion.{Standing}
 use Rattle.book.specs.Transfer.{transfer_of, transfer_checks}
 use Rattle.book.specs.Scale.{lift_of, tip_of, lift_checks, tip_checks}
@@ -200,25 +200,15 @@ fresh_report q room = refl
 -- However far off the vessel of a held report or the origin of a spread one is, it is 5, and before all else.
 pub no_vessel : (size v from to room : ℕ) → size ≤ v → (first (report_checks size room (Held v)) ≡ 5) × (first (report_checks size room (Spread v from to)) ≡ 5)
 unfolding report_checks
-no_vessel size v from to room h = (rw (le-leb size v h), rw (le-leb size v h))
+no_vessel size v from to room h = grind (arith, nat_tests)
 
 -- A refused opening gives a head of zeros.
 pub zeros : (rule size : ℕ) → ((opening rule size).number ≡ 0 → ⊥)
     → (opening rule size).head ≡ record { rule = 0; vessels = 0; pieces = 0; last = 0; accepted = 0; balances = replicate 64 0; scale = 0 }
 unfolding opening
-zeros rule size = go (first (open_checks rule size))
-  where
-    go : (n : ℕ) → ((opens rule size n).number ≡ 0 → ⊥) → (opens rule size n).head ≡ record { rule = 0; vessels = 0; pieces = 0; last = 0; accepted = 0; balances = replicate 64 0; scale = 0 }
-    go zero nz = absurd (nz refl)
-    go (suc n) nz = refl
+zeros rule size nz = grind arith
 
 -- More pieces than a table ever counts places: no computed case reaches it.
 pub too_many : (h : Head) (t : List ℕ) → most_places < h.pieces → adds_up h t ≡ false
 unfolding adds_up places_of
-too_many h t e = rw (lt-leb h.pieces (places_of t) (omega arith)) (go (leb h.rule last_rule) (leb 1 h.vessels) (leb h.vessels most_vessels))
-  where
-    go : (a b c : Bool) → (a && (b && (c && false))) ≡ false
-    go true true true = refl
-    go true true false = refl
-    go true false c = refl
-    go false b c = refl
+too_many h t e = grind (arith, nat_tests)

@@ -3,7 +3,8 @@
 -- scale, in the order they lay, behind them. And a report: its numbers are written, and the
 -- numbers after these remain. What is refused gives zeros, the head as it was, and changes nothing.
 -- Assumes nothing.
-use Rattle.std.proofs.Common.{◌≡◌, refl, sym, ◌∙◌, List, [], ◌∷◌, ◌++◌, map, append-nil, ℕ, arith, ltb, length, take, drop, take_at, drop_at}
+use Rattle.std.proofs.Common.{◌≡◌, refl, sym, ◌∙◌, List, ◌++◌, map, append-nil, ℕ, arith, length, take, drop, take_at, drop_at}
+use Rattle.std.proofs.lemmas.Bool.Decides.{nat_tests}
 use Rattle.table.specs.declared.Piece.{Piece}
 use Rattle.table.specs.Pieces.{hand_to}
 use Rattle.table.specs.Table.{pieces_of, places_of, lay}
@@ -12,8 +13,7 @@ use Rattle.taking.specs.InTable.{Moved, in_table}
 use Rattle.taking.specs.Sweeping.{held_by, elsewhere}
 use Rattle.taking.proofs.InTable.{taken_in_table}
 use Rattle.taking.proofs.Sweeping.{sweeps}
-use Rattle.refusal.specs.Numbers.{◌if◌, first}
-use Rattle.refusal.proofs.Numbers.{passed_first}
+use Rattle.refusal.specs.Numbers.{first}
 use Rattle.book.specs.declared.Head.{Head}
 use Rattle.book.specs.declared.Transfer.{Transfer}
 use Rattle.book.specs.declared.Lift.{Lift}
@@ -21,13 +21,13 @@ use Rattle.book.specs.declared.Tip.{Tip}
 use Rattle.book.specs.declared.Motion.{Motion}
 use Rattle.book.specs.declared.Report.{Report}
 use Rattle.book.specs.Head.{the_scale, book_of}
-use Rattle.book.specs.Motion.{of_book, takes, pieces_after}
+use Rattle.book.specs.Motion.{of_book, takes}
 use Rattle.book.specs.Transfer.{transfer_checks, motion_of}
 use Rattle.book.specs.Scale.{lift_checks, lift_motion}
 use Rattle.book.specs.Reports.{report_row}
 use Rattle.book.specs.Calls.{Call, post, lift, tip, ask, Answer, tip_on, meaning}
 use Rattle.book.specs.Memory.{number_of, call_on}
-use Rattle.book.proofs.Checks.{Fit, fit, LiftFit, lift_fit}
+use Rattle.book.proofs.Checks.{Fit, LiftFit}
 use Rattle.book.proofs.Memory.{call_number, refused_on, on_number, passed_book, book_passed}
 use Rattle.book.proofs.Known.{AddsUp, adds_up_told}
 
@@ -47,11 +47,11 @@ module _ (h : Head) (t : List ℕ) where
 
   pub post_fit : (x : Transfer) → number_of h t (post x) ≡ 0 → Fit (of_book (book_of h t)) x
   unfolding transfer_checks
-  post_fit x e = fit _ x (passed_first (transfer_checks (of_book (book_of h t)) x) (11 if ltb (places_of t) (length (pieces_after (book_of h t) h.rule (motion_of x))) ∷ []) tt (passed_own (post x) e))
+  post_fit x e = grind (arith, nat_tests, passed_own (post x) e)
 
   pub fit_lift : (x : Lift) → number_of h t (lift x) ≡ 0 → LiftFit (of_book (book_of h t)) x
   unfolding lift_checks
-  fit_lift x e = lift_fit _ x (passed_first (lift_checks (of_book (book_of h t)) x) (11 if ltb (places_of t) (length (pieces_after (book_of h t) h.rule (lift_motion x))) ∷ []) tt (passed_own (lift x) e))
+  fit_lift x e = grind (arith, nat_tests, passed_own (lift x) e)
 
   -- what takes weight from a vessel, by the rule of the book
   abbrev moved : Motion → Moved

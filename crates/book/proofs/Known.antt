@@ -1,7 +1,8 @@
 -- A head and a table that add up, as one record, and what follows of those whose numbers are of 32 bits: the book that they hold is sound,
 -- and what the code reads off the head is what the pieces say. They are made here, and nowhere else are the tests taken apart.
 -- Assumes nothing.
-use Rattle.std.proofs.Common.{◌≡◌, refl, sym, ◌∙◌, true, List, ℕ, ◌*◌, ◌≤◌, length, drop, leb-true, eqb-true}
+use Rattle.std.proofs.Common.{arith, ◌≡◌, refl, sym, ◌∙◌, true, List, ℕ, ◌*◌, ◌≤◌, length, drop}
+use Rattle.std.proofs.lemmas.Bool.Decides.{nat_tests}
 use Rattle.table.specs.declared.Piece.{Piece}
 use Rattle.table.specs.Pieces.{held, All}
 use Rattle.table.specs.Table.{pieces_of, places_of}
@@ -9,12 +10,12 @@ use Rattle.table.proofs.Pieces.{all_map}
 use Rattle.table.proofs.Table.{length_pieces, formed, places_fit}
 use Rattle.refusal.specs.Numbers.{first}
 use Rattle.book.specs.declared.Head.{Head}
-use Rattle.book.specs.Head.{last_rule, most_vessels, the_scale, holdings, Sized, balance_at, balances_of, head_of, book_of, book_tests, adds_up}
+use Rattle.book.specs.Head.{last_rule, most_vessels, the_scale, holdings, Sized, balance_at, balances_of, head_of, book_of, adds_up}
 use Rattle.book.specs.Motion.{of_book, of_head}
 use Rattle.book.specs.Memory.{book_checks}
 use Rattle.book.proofs.BalanceLaws.{Holders, Matches, balances_match, balance_held}
 use Rattle.book.proofs.Sound.{SoundPiece, SoundBook, SizedBook}
-use Rattle.book.proofs.HeadLaws.{Hold, hold, all_sound, same_eq}
+use Rattle.book.proofs.HeadLaws.{all_sound, same_eq}
 use Rattle.book.proofs.Memory.{On, book_passed}
 
 -- what each test of `adds_up` says
@@ -28,21 +29,9 @@ pub record AddsUp (h : Head) (t : List ℕ) : Type 0 where
   pub balances_are : h.balances ≡ balances_of h.vessels (pieces_of h.pieces t)
   pub scale_is : h.scale ≡ held the_scale (pieces_of h.pieces t)
 
-by_name : (h : Head) (t : List ℕ) → Hold (book_tests h t) → AddsUp h t
-by_name h t (rule, (some, (most, (few, (counted, (fit, (equal, (scaled, end)))))))) = record {
-  rule_known = leb-true _ _ rule;
-  some_vessel = leb-true 1 _ some;
-  vessels_fit = leb-true _ _ most;
-  few = leb-true _ _ few;
-  counted = leb-true _ _ counted;
-  sound = all_sound _ _ _ fit;
-  balances_are = same_eq h.balances _ equal;
-  scale_is = eqb-true _ _ scaled;
-}
-
 pub adds_up_told : (h : Head) (t : List ℕ) → adds_up h t ≡ true → AddsUp h t
 unfolding adds_up
-adds_up_told h t a = by_name h t (hold (book_tests h t) a)
+adds_up_told h t a = grind (arith, nat_tests, all_sound, same_eq)
 
 -- a head that adds up is the head of its book
 pub adds_head : (h : Head) (t : List ℕ) → AddsUp h t → h ≡ head_of (book_of h t)
@@ -67,16 +56,7 @@ module _ (h : Head) (t : List ℕ) (u : AddsUp h t) where
   adds_room = places_fit t h.pieces (places_of t) refl u.few
 
   pub adds_sound : SoundBook (places_of t) (book_of h t)
-  adds_sound =
-      let long = length_pieces h.pieces t in
-      record {
-        known = u.rule_known;
-        some_vessel = u.some_vessel;
-        vessels_fit = u.vessels_fit;
-        fits = rw long u.few;
-        counted = rw long u.counted;
-        sound = u.sound;
-      }
+  adds_sound = grind (arith, length_pieces h.pieces t)
 
   pub adds_on : On (places_of t) h t (book_of h t)
   adds_on = record { head_is = adds_head h t u; lies = record { tail = drop (4 * h.pieces) t; table_is = formed h.pieces t adds_room; places_is = refl } }

@@ -1,26 +1,22 @@
 -- Head and table against the book: a head and a table that hold a sound book add up, a call on them is the call on the book, and
 -- what it leaves holds the book that the call leaves.
 -- Assumes nothing.
-use Rattle.std.proofs.Common.{◌≡◌, refl, sym, ◌∙◌, Bool, true, false, not, List, ℕ, zero, suc, ◌≤◌, arith, ltb, eqb, length, le-leb, le-ltb, ltb-true, ltb-false, eq-eqb, ne_eqb}
-use Rattle.table.specs.Pieces.{held}
+use Rattle.std.proofs.Common.{◌≡◌, refl, sym, ◌∙◌, Bool, true, false, List, ℕ, zero, suc, ◌≤◌, arith, ltb, eqb, length, le-ltb}
+use Rattle.std.proofs.lemmas.Bool.Decides.{nat_tests}
 use Rattle.table.specs.Table.{places_of}
 use Rattle.table.proofs.Table.{pieces_flat}
 use Rattle.refusal.specs.Numbers.{first, if_zero}
-use Rattle.refusal.proofs.Numbers.{not_zero, first_zero, passed, first_append}
+use Rattle.refusal.proofs.Numbers.{first_append}
 use Rattle.book.specs.declared.Head.{Head}
-use Rattle.book.specs.Head.{Book, last_rule, most_vessels, the_scale, balances_of, head_of, book_of, adds_up}
-use Rattle.book.specs.Calls.{Call, post, lift, tip, ask, meaning, no_answer}
+use Rattle.book.specs.Head.{Book, balances_of, head_of, book_of, adds_up}
+use Rattle.book.specs.Calls.{Call, meaning, no_answer}
 use Rattle.book.specs.Memory.{Outcome, outcome, book_checks, number_of, call_on, transferred, replied}
 use Rattle.book.proofs.Sound.{number, SoundBook, Lies, keeps}
 use Rattle.book.proofs.HeadLaws.{same_refl, all_fit}
 
 pub no_place : (t : List ℕ) → ltb (length t) 4 ≡ eqb (places_of t) 0
 unfolding places_of
-no_place t = go (ltb (length t) 4) refl
-  where
-    go : (c : Bool) → ltb (length t) 4 ≡ c → c ≡ eqb (places_of t) 0
-    go true e = sym (eq-eqb (places_of t) 0 (omega (arith, ltb-true (length t) 4 e)))
-    go false e = sym (ne_eqb (places_of t) 0 (λ z. omega (arith, ltb-false (length t) 4 e)))
+no_place t = grind (arith, nat_tests)
 
 -- checks 1 and 4, as `refusal_of` finds them
 module _ (h : Head) (t : List ℕ) (c : Bool) (long : 4 ≤ length t) (e : c ≡ adds_up h t) where
@@ -35,11 +31,7 @@ module _ (h : Head) (t : List ℕ) (c : Bool) (long : 4 ≤ length t) (e : c ≡
 -- a call answers its number
 pub call_number : (h : Head) (t : List ℕ) (c : Call) → (call_on h t c).number ≡ number_of h t c
 unfolding call_on
-call_number h t c = go (number_of h t c)
-  where
-    go : (n : ℕ) → (outcome h t (meaning c) n).number ≡ n
-    go zero = refl
-    go (suc n) = refl
+call_number h t c = grind arith
 
 -- what the code answers is all of it
 pub answer_told : (o : Outcome)
@@ -51,11 +43,7 @@ answer_told o = (refl, refl)
 pub refused_on : (h : Head) (t : List ℕ) (c : Call) (n : ℕ) → number_of h t c ≡ n → (n ≡ 0 → ⊥)
     → call_on h t c ≡ record { number = n; answer = no_answer; head = h; table = t; room = (meaning c).lent; even = 0 }
 unfolding call_on
-refused_on h t c n e nz = rw e (go n nz)
-  where
-    go : (n : ℕ) → (n ≡ 0 → ⊥) → outcome h t (meaning c) n ≡ record { number = n; answer = no_answer; head = h; table = t; room = (meaning c).lent; even = 0 }
-    go zero nz = absurd (nz refl)
-    go (suc n) nz = refl
+refused_on h t c n e nz = grind arith
 
 -- and an accepted one gives and leaves what it means
 pub accepted_on : (h : Head) (t : List ℕ) (c : Call) → number_of h t c ≡ 0 → call_on h t c ≡ outcome h t (meaning c) 0
@@ -63,20 +51,10 @@ unfolding call_on
 accepted_on h t c e = rw e
 
 pub refused_memory : (h : Head) (t : List ℕ) (c : Call) → ((call_on h t c).number ≡ 0 → ⊥) → ((call_on h t c).head ≡ h) × ((call_on h t c).table ≡ t)
-unfolding call_on
-refused_memory h t c nz = go (number_of h t c) nz
-  where
-    go : (n : ℕ) → ((outcome h t (meaning c) n).number ≡ 0 → ⊥) → ((outcome h t (meaning c) n).head ≡ h) × ((outcome h t (meaning c) n).table ≡ t)
-    go zero nz = absurd (nz refl)
-    go (suc n) nz = (refl, refl)
+refused_memory h t c nz = rw (refused_on h t c _ (sym (call_number h t c)) nz) (refl, refl)
 
 pub refused_even : (h : Head) (t : List ℕ) (c : Call) → ((call_on h t c).number ≡ 0 → ⊥) → (call_on h t c).even ≡ 0
-unfolding call_on
-refused_even h t c nz = go (number_of h t c) nz
-  where
-    go : (n : ℕ) → ((outcome h t (meaning c) n).number ≡ 0 → ⊥) → (outcome h t (meaning c) n).even ≡ 0
-    go zero nz = absurd (nz refl)
-    go (suc n) nz = refl
+refused_even h t c nz = rw (refused_on h t c _ (sym (call_number h t c)) nz)
 
 -- the number of a call: checks 1 and 4, then its own
 pub number_split : (h : Head) (t : List ℕ) (c : Call)
@@ -85,23 +63,19 @@ unfolding number_of book_checks
 number_split h t c = first_append (book_checks h t) ((meaning c).checks (places_of t) (book_of h t)) tt
 
 pub off_number : (h : Head) (t : List ℕ) (c : Call) (n : ℕ) → n ≡ first (book_checks h t) → (n ≡ 0 → ⊥) → number_of h t c ≡ n
-off_number h t c n e nz = number_split h t c ∙ rw (← e) (sym (not_zero n _ n nz))
+off_number h t c n e nz = grind (arith, number_split h t c)
 
 pub on_number : (h : Head) (t : List ℕ) (c : Call) (n : ℕ) → n ≡ first (book_checks h t) → n ≡ 0 → number_of h t c ≡ first ((meaning c).checks (places_of t) (book_of h t))
-on_number h t c n e z = number_split h t c ∙ rw (← e, z)
+on_number h t c n e z = grind (arith, number_split h t c)
 
 -- a call that is accepted has passed checks 1 and 4
 pub passed_book : (h : Head) (t : List ℕ) (c : Call) → number_of h t c ≡ 0 → first (book_checks h t) ≡ 0
-passed_book h t c e = first_zero (first (book_checks h t)) _ (sym (number_split h t c) ∙ e)
+passed_book h t c e = grind (arith, number_split h t c)
 
 -- checks 1 and 4 are passed
 pub book_passed : (h : Head) (t : List ℕ) → first (book_checks h t) ≡ 0 → (4 ≤ length t) × (adds_up h t ≡ true)
 unfolding book_checks
-book_passed h t e = let p = passed (book_checks h t) tt e in (ltb-false _ _ p.0, go (adds_up h t) p.1.0)
-  where
-    go : (c : Bool) → not c ≡ false → c ≡ true
-    go true u = refl
-    go false u = sym u
+book_passed h t e = grind (arith, nat_tests)
 
 -- A head and a table that hold the book b.
 pub record On (places : ℕ) (h : Head) (t : List ℕ) (b : Book) : Type 0 where
@@ -114,20 +88,7 @@ module _ (places : ℕ) (h : Head) (t : List ℕ) (b : Book) (on : On places h t
 
   pub adds : adds_up h t ≡ true
   unfolding adds_up
-  adds = rw (
-    on.lies.places_is,
-    on.head_is,
-    on.lies.table_is,
-    pieces_flat,
-    le-leb _ last_rule o.known,
-    le-leb 1 _ o.some_vessel,
-    le-leb _ most_vessels o.vessels_fit,
-    le-leb _ _ o.fits,
-    le-leb _ _ o.counted,
-    all_fit _ _ o.sound,
-    same_refl (balances_of b.vessels b.pieces),
-    eq-eqb (held the_scale b.pieces) _ refl,
-  )
+  adds = rw (on.lies.places_is, on.head_is, on.lies.table_is, pieces_flat) (grind (arith, nat_tests, o, all_fit _ _ o.sound, same_refl (balances_of b.vessels b.pieces)))
 
   pub number_same : (c : Call) → number_of h t c ≡ number places b c
   unfolding number_of book_checks number
@@ -149,16 +110,9 @@ module _ (places : ℕ) (h : Head) (t : List ℕ) (b : Book) (on : On places h t
           let k = keeps places b c o e in
           let z : number_of h t c ≡ 0 = s ∙ e in
           record { number_is = rw z; even_is = rw (z, back); holds = rw (z, back) (record { head_is = refl; lies = k.lies t on.lies }); sound = k.sound }
-      go (suc n) e s = let z : number_of h t c ≡ suc n = s ∙ e in record { number_is = rw z; even_is = rw z; holds = rw z on; sound = o }
+      go (suc n) e s = let z : number_of h t c ≡ suc n = s ∙ e in grind arith
 
 -- no call alters the rule or the number of vessels
 pub rule_kept : (h : Head) (t : List ℕ) (c : Call) → ((call_on h t c).head.rule ≡ h.rule) × ((call_on h t c).head.vessels ≡ h.vessels)
 unfolding call_on
-rule_kept h t c = go c (number_of h t c)
-  where
-    go : (c : Call) (n : ℕ) → ((outcome h t (meaning c) n).head.rule ≡ h.rule) × ((outcome h t (meaning c) n).head.vessels ≡ h.vessels)
-    go (post x) zero = (refl, refl)
-    go (lift x) zero = (refl, refl)
-    go (tip y) zero = (refl, refl)
-    go (ask q room) zero = (refl, refl)
-    go c (suc n) = (refl, refl)
+rule_kept h t c = grind arith

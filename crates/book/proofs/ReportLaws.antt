@@ -2,16 +2,15 @@
 -- whole is made of held rows, spread over every minute is a column of whole, and spans that meet add up. So a definition that is changed alone
 -- falls out with the others. Edges.antt has each check of a report at its edge; where they pass, the room is long enough.
 -- Assumes nothing.
-use Rattle.std.proofs.Common.{◌≡◌, refl, sym, ap, ◌∙◌, ◌≢◌, Bool, true, false, ◌&&◌, List, [], ◌∷◌, ℕ, zero, suc, ◌+◌, ◌*◌, ◌≤◌, ◌<◌, add-zero, zero-mul, suc-mul, not-suc-le-zero, le_of_suc-le-suc, arith, leb, eqb, length, get_or, length-append, get_or-append-add, ltb-false, le-leb, leb-true, leb-false, eqb-true, ne_eqb}
+use Rattle.std.proofs.Common.{◌≡◌, refl, sym, ap, ◌∙◌, Bool, true, ◌&&◌, List, [], ◌∷◌, ℕ, zero, suc, ◌+◌, ◌*◌, ◌≤◌, ◌<◌, add-zero, zero-mul, suc-mul, not-suc-le-zero, le_of_suc-le-suc, arith, eqb, length, get_or, length-append, get_or-append-add}
 use mathlib.Core.List.{foldr}
 use lib.ListN.{get_or-append}
-use borrow.Author.Tests.{lt-leb, eqb-false}
+use Rattle.std.proofs.lemmas.Bool.Decides.{nat_tests}
 use Rattle.table.specs.declared.Piece.{Piece}
 use Rattle.table.specs.Pieces.{only, sum, held, All, done, also}
 use Rattle.table.specs.Table.{pieces_of}
 use Rattle.table.proofs.Pieces.{all_map}
 use Rattle.refusal.specs.Numbers.{TOP, first}
-use Rattle.refusal.proofs.Numbers.{passed}
 use Rattle.book.specs.declared.Head.{Head}
 use Rattle.book.specs.declared.Report.{Report}
 use Rattle.book.specs.declared.Report.TheVariants.{Held, Spread, Whole}
@@ -61,16 +60,12 @@ module _ (o : ℕ) (c : Bool) (w : ℕ) where
   added_none : (i n : ℕ) → o < i → added (tab at_one i n) ≡ 0
   unfolding tab
   added_none i zero h = refl
-  added_none i (suc n) h = rw (ne_eqb o i (λ e. omega arith)) (omega (arith, added_none (suc i) n (omega arith)))
+  added_none i (suc n) h = grind (arith, nat_tests, added_none (suc i) n)
 
   added_one : (i n : ℕ) → i ≤ o → o < i + n → added (tab at_one i n) ≡ only c w
   unfolding tab
   added_one i zero g h = absurd (omega arith)
-  added_one i (suc n) g h = go (eqb o i) refl (added_one (suc i) n)
-    where
-      go : (t : Bool) → eqb o i ≡ t → (suc i ≤ o → o < suc i + n → added (tab at_one (suc i) n) ≡ only c w) → only (t && c) w + added (tab at_one (suc i) n) ≡ only c w
-      go true e later = omega (arith, added_none (suc i) n (omega (arith, eqb-true o i e)))
-      go false e later = let d : o ≢ i = eqb-false o i e in omega (arith, later (omega arith) (omega arith))
+  added_one i (suc n) g h = grind (arith, nat_tests, added_none (suc i) n, added_one (suc i) n)
 
 pub held_adds : (size v : ℕ) {ps : List Piece} → All (λ p. p.origin < size) ps → added (held_row size v ps) ≡ held v ps
 held_adds size v done = added_zeros 0 size
@@ -99,13 +94,7 @@ whole_held size v u ps h g = rows_at size 0 size v u ps h g ∙ ap (λ (w : ℕ)
 -- SPREAD over every minute is the origin's column of whole.
 every_minute : (o v : ℕ) {ps : List Piece} → All (λ p. p.birth ≤ TOP) ps → sum (born_within o 0 TOP v) ps ≡ sum (from_origin v o) ps
 every_minute o v done = refl
-every_minute o v (also {p = p} h x) = rw (le-leb 0 p.birth (omega arith), le-leb p.birth TOP h) (omega (arith, go (eqb p.holder v) (eqb p.origin o), every_minute o v x))
-  where
-    go : (a b : Bool) → only (a && (b && true)) p.weight ≡ only (b && a) p.weight
-    go true true = refl
-    go true false = refl
-    go false true = refl
-    go false false = refl
+every_minute o v (also {p = p} h x) = grind (arith, nat_tests, every_minute o v x)
 
 pub whole_spread : (size o v : ℕ) {ps : List Piece} → o < size → v < size → All (λ p. p.birth ≤ TOP) ps
     → get_or (report_row size ps (Spread o 0 TOP)) v 0 ≡ get_or (report_row size ps Whole) (v * size + o) 0
@@ -115,17 +104,7 @@ whole_spread size o v {ps} ho hv x =
 -- "minutes from and to, both included": two spans that meet add up to the span of both.
 spans : (o v from m to : ℕ) → from ≤ m → m < to → (ps : List Piece) → sum (born_within o from m v) ps + sum (born_within o (m + 1) to v) ps ≡ sum (born_within o from to v) ps
 spans o v from m to h g [] = refl
-spans o v from m to h g (p ∷ ps) = omega (arith, go (eqb p.holder v) (eqb p.origin o) (leb p.birth m) refl, spans o v from m to h g ps)
-  where
-    within : ℕ → ℕ → Bool
-    within from to = leb from p.birth && leb p.birth to
-
-    go : (a b c : Bool) → leb p.birth m ≡ c
-        → only (a && (b && within from m)) p.weight + only (a && (b && within (m + 1) to)) p.weight ≡ only (a && (b && within from to)) p.weight
-    go true true true e = let k : p.birth ≤ m = leb-true _ _ e in rw (e, lt-leb (m + 1) p.birth (omega arith), le-leb p.birth to (omega arith)) (omega arith)
-    go true true false e = let k : m < p.birth = leb-false _ _ e in rw (e, le-leb (m + 1) p.birth (omega arith), le-leb from p.birth (omega arith)) (omega arith)
-    go true false c e = refl
-    go false b c e = refl
+spans o v from m to h g (p ∷ ps) = grind (arith, nat_tests, spans o v from m to h g ps)
 
 pub spread_spans : (size o v from m to : ℕ) (ps : List Piece) → v < size → from ≤ m → m < to
     → get_or (report_row size ps (Spread o from m)) v 0 + get_or (report_row size ps (Spread o (m + 1) to)) v 0 ≡ get_or (report_row size ps (Spread o from to)) v 0
@@ -137,12 +116,12 @@ spread_spans size o v from m to ps hv h g =
 module _ (size room : ℕ) (asked : Report) where
   pub held_room : (v : ℕ) → asked ≡ Held v → first (report_checks size room asked) ≡ 0 → size ≤ room
   unfolding report_checks
-  held_room v a e = let (vessel, (short, end)) = passed (report_checks size room (Held v)) tt (rw a at e) in ltb-false _ _ short
+  held_room v a e = let k = rw a at e in grind (arith, nat_tests)
 
   pub spread_room : (u from to : ℕ) → asked ≡ Spread u from to → first (report_checks size room asked) ≡ 0 → size ≤ room
   unfolding report_checks
-  spread_room u from to a e = let (origin, (back, (short, end))) = passed (report_checks size room (Spread u from to)) tt (rw a at e) in ltb-false _ _ short
+  spread_room u from to a e = let k = rw a at e in grind (arith, nat_tests)
 
   pub whole_room : asked ≡ Whole → first (report_checks size room asked) ≡ 0 → size * size ≤ room
   unfolding report_checks
-  whole_room a e = let (short, end) = passed (report_checks size room Whole) tt (rw a at e) in ltb-false _ _ short
+  whole_room a e = let k = rw a at e in grind (arith, nat_tests)

@@ -3,7 +3,8 @@
 -- book, in document 02's words. `divided`: the six movements, each as a lift and a tip, leave K1 to K4's pieces, and what else lifts and tips
 -- leave, on small cases; `tip_behind`: what was on the scale ends behind all others, in the order it lay, whatever the rule.
 -- Assumes nothing.
-use Rattle.std.proofs.Common.{◌≡◌, refl, sym, ap, ◌∙◌, ◌≢◌, Bool, true, false, ◌&&◌, List, [], ◌∷◌, ◌++◌, map, ℕ, zero, suc, ◌+◌, ◌-◌, ◌<◌, add-zero, arith, eqb, take, replicate, lt-ltb, ne_eqb}
+use Rattle.std.proofs.Common.{◌≡◌, refl, ◌∙◌, ◌≢◌, List, [], ◌∷◌, ◌++◌, map, ℕ, zero, suc, ◌+◌, ◌<◌, arith, eqb, take, replicate}
+use Rattle.std.proofs.lemmas.Bool.Decides.{nat_tests}
 use Rattle.table.specs.Pieces.{only, held}
 use Rattle.table.specs.Table.{pieces_of, flat, places_of}
 use Rattle.taking.specs.Selection.{precedes}
@@ -19,7 +20,7 @@ use Rattle.book.specs.Motion.{takes}
 use Rattle.book.specs.Transfer.{transfer_of, transfer_checks, motion_of}
 use Rattle.book.specs.Scale.{lift_of, tip_of, lift_part, tip_part, lift_checks, tip_checks, tip_motion}
 use Rattle.book.specs.Calls.{Call, post, lift, tip, ask}
-use Rattle.book.specs.Memory.{Outcome, book_checks, number_of, call_on}
+use Rattle.book.specs.Memory.{book_checks, number_of, call_on}
 use Rattle.book.specs.WeighBook.{WeighBook, weighed}
 use Rattle.book.specs.Lists.{Journal, calls_on, numbers}
 use Rattle.book.proofs.Memory.{accepted_on, refused_on, on_number, book_passed}
@@ -38,11 +39,8 @@ module _ (h : Head) (t : List ℕ) (e : first (book_checks h t) ≡ 0) where
       → (number_of h t (post x) ≡ 22) × (number_of h t (lift l) ≡ 22) × (number_of h t (ask q room) ≡ 22)
   unfolding transfer_checks lift_checks
   loaded_refuses u x l q room =
-      let k : 0 < held the_scale (pieces_of h.pieces t) = rw (← scale_is) u in (
-        on_number h t (post x) _ refl e ∙ rw (lt-ltb _ _ k),
-        on_number h t (lift l) _ refl e ∙ rw (lt-ltb _ _ k),
-        on_number h t (ask q room) _ refl e ∙ rw (lt-ltb _ _ k),
-      )
+      let own = λ (c : Call). on_number h t c (first (book_checks h t)) refl e in
+      grind (arith, nat_tests, scale_is, own (post x), own (lift l), own (ask q room))
 
   pub bare_refuses : h.scale ≡ 0 → (y : Tip) → number_of h t (tip y) ≡ 23
   unfolding tip_checks
@@ -57,10 +55,9 @@ post_scale h t x = go (number_of h t (post x)) refl
         let f = post_fit h t x e in
         let a = accepted_book h t (post x) e in
         let v = a.vessels_fit in
-        ap (λ (o : Outcome). o.head.scale) (accepted_on h t (post x) e)
-        ∙ held_after (book_of h t) h.rule (motion_of x) the_scale
-        ∙ rw (ne_eqb x.source the_scale (λ z. omega (arith, f.source_in)), ne_eqb x.destination the_scale (λ z. omega (arith, f.destination_in))) (omega (arith, a.scale_is))
-    go (suc n) e = ap (λ (o : Outcome). o.head.scale) (refused_on h t (post x) (suc n) e (λ z. omega arith))
+        let kept = held_after (book_of h t) h.rule (motion_of x) the_scale in
+        rw (accepted_on h t (post x) e) (grind (arith, nat_tests, kept, f, a.scale_is))
+    go (suc n) e = rw (refused_on h t (post x) (suc n) e (λ z. omega arith))
 
 -- "a tip moves all its weight there to d, sets last and leaves accepted"
 pub record TipWeighed (w : WeighBook) (y : Tip) (w' : WeighBook) : Type 0 where
@@ -71,18 +68,7 @@ pub record TipWeighed (w : WeighBook) (y : Tip) (w' : WeighBook) : Type 0 where
   pub accepted : w'.accepted ≡ w.accepted
 
 pub tip_weighed : (w : WeighBook) (y : Tip) → y.destination ≢ the_scale → TipWeighed w y (weighed w (tip_motion (w.weight the_scale) y))
-tip_weighed w y ne = record {
-  scale_bare = rw (ne_eqb y.destination the_scale ne) (omega arith);
-  others = λ v nv. rw (ne_eqb the_scale v (λ z. nv (sym z))) (omega arith);
-  births = λ o m. none (eqb the_scale o) (eqb y.minute m) (w.births o m);
-  last = refl;
-  accepted = add-zero w.accepted;
-}
-  where
-    none : (a b : Bool) (n : ℕ) → n + only (a && b) (w.weight the_scale - w.weight the_scale) ≡ n
-    none true true n = omega arith
-    none true false n = omega arith
-    none false b n = omega arith
+tip_weighed w y ne = grind (arith, nat_tests)
 
 -- a transfer as its lift and its tip
 abbrev both : List Transfer → List Call

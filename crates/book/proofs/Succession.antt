@@ -3,8 +3,8 @@
 -- lift is accepted, with that of the tip, or with 6 where it goes back to its source (`tip_decides`, `same_vessel`); where the lift is refused,
 -- with that of the lift, if nothing is amiss with the destination (`lift_decides`).
 -- Assumes nothing.
-use Rattle.std.proofs.Common.{◌≡◌, refl, sym, ap, ◌∙◌, subst, ◌≢◌, Bool, true, false, List, [], ◌∷◌, ◌++◌, ℕ, zero, suc, ◌+◌, ◌*◌, ◌≤◌, ◌<◌, add-zero, arith, leb, ltb, length, drop, drop_at, leb-false, le-ltb, eq-eqb, ne_eqb}
-use borrow.Author.Tests.{lt-leb}
+use Rattle.std.proofs.Common.{◌≡◌, refl, sym, ap, ◌∙◌, subst, ◌≢◌, List, [], ◌∷◌, ◌++◌, ℕ, zero, suc, ◌+◌, ◌*◌, ◌≤◌, ◌<◌, add-zero, arith, leb, ltb, length, drop, drop_at}
+use Rattle.std.proofs.lemmas.Bool.Decides.{nat_tests}
 use Rattle.table.specs.declared.Piece.{Piece}
 use Rattle.table.specs.Pieces.{held}
 use Rattle.table.specs.Table.{flat, lay, places_of}
@@ -15,7 +15,7 @@ use Rattle.taking.proofs.Sweeping.{none_held, sweeps, passed_on}
 use Rattle.refusal.specs.Numbers.{TOP, ◌if◌, first}
 use Rattle.book.specs.declared.Head.{Head}
 use Rattle.book.specs.declared.Transfer.{Transfer}
-use Rattle.book.specs.Head.{Book, most_vessels, the_scale, balance_at, head_of, book_of}
+use Rattle.book.specs.Head.{Book, the_scale, balance_at, head_of, book_of}
 use Rattle.book.specs.Motion.{of_book, takes, pieces_after, book_after}
 use Rattle.book.specs.Transfer.{transfer_checks, motion_of}
 use Rattle.book.specs.Scale.{lift_part, tip_part, lift_checks, tip_checks, lift_motion, as_they_lie}
@@ -45,17 +45,12 @@ module _ (places : ℕ) (b : Book) (o : SoundBook places b) (x : Transfer) (bare
     fits : LiftFit (of_book b) (lift_part x)
     fits = lift_fit (of_book b) (lift_part x) clear
 
-    source_vessel : x.source < most_vessels
-    source_vessel = omega (arith, fits.source_in, o.vessels_fit)
-
     -- all that was lifted is on the scale, and another vessel holds what it held
     on_scale : held the_scale lifted.pieces ≡ x.weight
-    on_scale = held_after b b.rule (lift_motion (lift_part x)) the_scale ∙ rw (ne_eqb x.source the_scale (λ z. omega (arith, source_vessel)), bare) (omega arith)
+    on_scale = let after = held_after b b.rule (lift_motion (lift_part x)) the_scale in grind (arith, nat_tests, after, fits.source_in, o.vessels_fit)
 
     in_others : x.source ≢ x.destination → x.destination < b.vessels → held x.destination lifted.pieces ≡ held x.destination b.pieces
-    in_others apart inside =
-        held_after b b.rule (lift_motion (lift_part x)) x.destination
-        ∙ rw (ne_eqb _ _ apart, ne_eqb the_scale x.destination (λ z. omega (arith, o.vessels_fit))) (omega arith)
+    in_others apart inside = let after = held_after b b.rule (lift_motion (lift_part x)) x.destination in grind (arith, nat_tests, after, o.vessels_fit)
 
     same_pieces : pieces_after lifted as_they_lie (tip_on lifted (tip_part x)) ≡ pieces_after b b.rule (motion_of x)
     unfolding takes taken
@@ -74,45 +69,26 @@ module _ (places : ℕ) (b : Book) (o : SoundBook places b) (x : Transfer) (bare
     tip_is : (places ≡ 0 → ⊥) → x.source ≢ x.destination
         → number places lifted (tip (tip_part x)) ≡ first (5 if leb b.vessels x.destination ∷ 9 if ltb TOP (held x.destination b.pieces + x.weight) ∷ [])
     unfolding number tip_checks
-    tip_is some apart =
-        rw (ne_eqb places 0 some, on_scale, ne_eqb x.weight 0 (λ z. omega (arith, fits.weighty)), le-ltb x.minute x.minute (omega arith))
-        (go (leb b.vessels x.destination) refl)
-      where
-        go : (t : Bool) → leb b.vessels x.destination ≡ t
-            → first (5 if t ∷ 9 if ltb TOP (held x.destination lifted.pieces + x.weight) ∷ []) ≡ first (5 if t ∷ 9 if ltb TOP (held x.destination b.pieces + x.weight) ∷ [])
-        go true e = refl
-        go false e = rw (in_others apart (leb-false _ _ e))
+    tip_is some apart = grind (arith, nat_tests, on_scale, fits.weighty, in_others apart)
 
     -- and so it is with the transfer's
     post_is : (places ≡ 0 → ⊥) → length (pieces_after b b.rule (lift_motion (lift_part x))) ≤ places → x.source ≢ x.destination
         → number places b (post x) ≡ first (5 if leb b.vessels x.destination ∷ 9 if ltb TOP (held x.destination b.pieces + x.weight) ∷ [])
     unfolding number transfer_checks
-    post_is some room apart =
-        rw (
-          ne_eqb places 0 some,
-          bare,
-          lt-leb _ _ fits.source_in,
-          ne_eqb _ _ apart,
-          ne_eqb x.weight 0 (λ z. omega (arith, fits.weighty)),
-          le-ltb _ _ fits.forward,
-          le-ltb _ _ fits.in_time,
-          ne_eqb _ _ fits.tally,
-          ← (same_length b x),
-          le-ltb _ _ room,
-        )
+    post_is some room apart = grind (arith, nat_tests, fits, same_length b x)
 
     post_back : (places ≡ 0 → ⊥) → x.source ≡ x.destination → number places b (post x) ≡ 6
     unfolding number transfer_checks
-    post_back some same = rw (ne_eqb places 0 some, bare, ← same, lt-leb _ _ fits.source_in, eq-eqb x.source x.source refl)
+    post_back some same = grind (arith, nat_tests, fits.source_in)
 
   -- where nothing is amiss with the destination, the lift's number is the transfer's
   lift_is : x.destination < b.vessels → x.source ≢ x.destination → held x.destination b.pieces + x.weight ≤ TOP → number places b (post x) ≡ number places b (lift (lift_part x))
   unfolding number transfer_checks lift_checks
-  lift_is inside apart room = rw (lt-leb _ _ inside, ne_eqb _ _ apart, le-ltb _ _ room, same_length b x)
+  lift_is inside apart room = grind (arith, nat_tests, same_length b x)
 
   -- a transfer that is accepted has a lift that is
   lift_accepted : number places b (post x) ≡ 0 → number places b (lift (lift_part x)) ≡ 0
-  lift_accepted e = let f = fit (of_book b) x (post_number places b x e).0 in sym (lift_is f.destination_in f.apart f.room) ∙ e
+  lift_accepted e = grind (arith, fit (of_book b) x (post_number places b x e).0, lift_is)
 
 -- pieces laid on a table where as many lay
 lay_again : (ps qs : List Piece) (t : List ℕ) → length qs ≡ length ps → lay qs (lay ps t) ≡ lay qs t
@@ -147,13 +123,7 @@ module _ (h : Head) (t : List ℕ) (x : Transfer) where
   off n e =
       let a : whole.number ≡ suc n = call_number h t (post x) ∙ off_number h t (post x) (suc n) (sym e) (λ z. omega arith) in
       let b : up.number ≡ suc n = call_number h t (lift (lift_part x)) ∙ off_number h t (lift (lift_part x)) (suc n) (sym e) (λ z. omega arith) in
-      record {
-        same_outcome = λ z. absurd (omega arith);
-        tip_decides = λ z u. absurd (omega arith);
-        same_vessel = λ z u. absurd (omega arith);
-        lift_decides = λ u z. omega arith;
-        lift_number = λ i p r. a ∙ sym b;
-      }
+      grind arith
 
   -- On a book that adds up, with nothing on the scale.
   module _ (bare : h.scale ≡ 0) (e : first (book_checks h t) ≡ 0) where

@@ -2,11 +2,14 @@
 -- behind it close up at once. So at each pick the pieces of `taken` are those that stay in the plan, and the pick is the first key of the order
 -- (proofs/Picks.antt).
 -- Assumes nothing.
-use Rattle.std.proofs.Common.{◌≡◌, refl, sym, ap, ◌∙◌, ◌≢◌, Bool, true, false, cond, List, [], ◌∷◌, ◌++◌, ℕ, zero, suc, ◌+◌, ◌-◌, ◌≤◌, ◌<◌, min, arith, leb, eqb, length, get_or, set, length-append, eqb-true, ne_eqb}
+use Rattle.std.proofs.Common.{◌≡◌, refl, sym, ap, ◌∙◌, ◌≢◌, Bool, true, false, List, [], ◌∷◌, ◌++◌, ℕ, zero, suc, ◌+◌, ◌-◌, ◌≤◌, ◌<◌, min, arith, leb, eqb, length, get_or, set, length-append, eqb-true, ne_eqb}
 use mathlib.Core.List.{reverse-append}
 use native.Mathlib.Nat.{sub-zero}
 use lib.ListN.{length-reverse}
-use lib.Seq.{get_or_at, set_at, set-get_or}
+use Rattle.std.proofs.lemmas.Bool.{cases_eq, cases_lt}
+use Rattle.std.proofs.lemmas.Bool.Decides.{nat_tests}
+use Rattle.std.proofs.lemmas.Grind.{common_steps}
+use lib.Seq.{set_out, get_or_at, set_at, set-get_or}
 use borrow.Author.Tests.{eqb-false}
 use Rattle.table.specs.declared.Piece.{Piece}
 use Rattle.table.specs.Pieces.{no_piece, of_weight, All}
@@ -15,7 +18,7 @@ use Rattle.table.specs.Closing.{VACANT, vacated, Present, stay}
 use Rattle.table.proofs.ClosingUp.{stay_append, stay_all}
 use Rattle.sorting.proofs.Laws.{length_sort}
 use Rattle.picking.specs.declared.plan.Plan.{Plan}
-use Rattle.taking.specs.Selection.{Found, nothing, at, behind, against, select}
+use Rattle.taking.specs.Selection.{Found, nothing, at, select}
 use Rattle.taking.specs.declared.Move.{Move}
 use Rattle.taking.specs.Taking.{Taken, stop, one_whole, take_from, take_found, take_next, take_up_to, taken}
 use Rattle.picking.specs.Plan.{by_birth, backwards, key_of, place_of, at_key, keys_of, turned, order_of, vacate_at, vacate_all, picked, halt, plan_from, reduced, taken_by, planned}
@@ -29,27 +32,7 @@ seen (at b x a) = at (stay b) x (stay a)
 select_stay : (better : Piece → Piece → Bool) (s : ℕ) → s ≢ VACANT → (ms : List Piece) → select better s (stay ms) ≡ seen (select better s ms)
 unfolding stay
 select_stay better s apart [] = refl
-select_stay better s apart (p ∷ ms) = go (eqb p.holder VACANT) refl (select_stay better s apart ms)
-  where
-    here : (c : Bool) (f : Found) → eqb p.holder VACANT ≡ false
-        → cond c (against better p (stay ms) (seen f)) (behind p (seen f)) ≡ seen (cond c (against better p ms f) (behind p f))
-    here true nothing e = refl
-    here true (at b x a) e = win (better p x)
-      where
-        win : (t : Bool) → cond t (at [] p (stay ms)) (at (p ∷ stay b) x (stay a)) ≡ seen (cond t (at [] p ms) (at (p ∷ b) x a))
-        win true = refl
-        win false = rw e
-    here false nothing e = refl
-    here false (at b x a) e = rw e
-
-    skip : (f : Found) → eqb p.holder VACANT ≡ true → seen f ≡ seen (behind p f)
-    skip nothing e = refl
-    skip (at b x a) e = rw e
-
-    go : (t : Bool) → eqb p.holder VACANT ≡ t → select better s (stay ms) ≡ seen (select better s ms)
-        → select better s (cond t (stay ms) (p ∷ stay ms)) ≡ seen (select better s (p ∷ ms))
-    go true e i = rw (ne_eqb p.holder s (λ z. apart (sym z ∙ eqb-true p.holder VACANT e))) (i ∙ skip (select better s ms) e)
-    go false e i = rw i (here (eqb p.holder s) (select better s ms) e)
+select_stay better s apart (p ∷ ms) = grind (arith, nat_tests, select_stay better s apart ms)
 
 -- The order is nothing where nothing is picked, else the pick's key and the order without it.
 abbrev Starts : Bool → Bool → ℕ → List Piece → Found → Type 0
@@ -65,12 +48,8 @@ starts old back s apart ms h = go back (select (prefers old back) s ms) (picks_f
     order false k ks ts u = u
     order true k ks ts (u, m) = rw u (reverse-append ts (k ∷ []))
 
-    empty : (back : Bool) (ks : List ℕ) → ks ≡ [] → turned back ks ≡ []
-    empty false ks e = e
-    empty true ks e = rw e
-
     go : (back : Bool) (f : Found) → Picked old s apart back 0 ms f → Starts old back s ms f
-    go back nothing u = empty back _ u
+    go back nothing u = grind arith
     go back (at b x a) (g, hx, u) =
         let l : length b < most_places = omega (arith, ap length g, length-append b (x ∷ a)) in
         let z : 0 + length b ≡ length b = omega arith in
@@ -83,23 +62,10 @@ further r = record { whole = suc r.whole; left = r.left }
 plan_suc : (ks : List ℕ) (c want : ℕ) (ps : List Piece) → plan_from (suc c) ks want ps ≡ further (plan_from c ks want ps)
 unfolding plan_from
 plan_suc [] c want ps = refl
-plan_suc (k ∷ ks) c want ps = go (eqb want 0) (leb w want) _ _ (plan_suc ks (suc c) (want - w) ps)
-  where
-    w : ℕ
-    w = (at_key ps k).weight
-
-    go : (u t : Bool) (r q : Plan) → q ≡ further r
-        → cond u (halt (suc c) want) (cond t q (halt (suc c) want)) ≡ further (cond u (halt c want) (cond t r (halt c want)))
-    go true t r q e = refl
-    go false true r q e = e
-    go false false r q e = refl
+plan_suc (k ∷ ks) c want ps = grind (arith, plan_suc ks (suc c) (want - (at_key ps k).weight) ps)
 
 weight_vacated : (i j : ℕ) (ps : List Piece) → (get_or (vacate_at i ps) j no_piece).weight ≡ (get_or ps j no_piece).weight
-weight_vacated i j [] = refl
-weight_vacated zero zero (p ∷ ps) = refl
-weight_vacated zero (suc j) (p ∷ ps) = refl
-weight_vacated (suc i) zero (p ∷ ps) = refl
-weight_vacated (suc i) (suc j) (p ∷ ps) = weight_vacated i j ps
+weight_vacated i j ps = grind (arith, common_steps, cases_eq i j, cases_lt i (length ps), set_out ps i)
 
 plan_vacated : (i : ℕ) (ks : List ℕ) (c want : ℕ) (ps : List Piece) → plan_from c ks want (vacate_at i ps) ≡ plan_from c ks want ps
 unfolding plan_from
@@ -143,7 +109,7 @@ module _ (more : ℕ → List Piece → Taken) (s want : ℕ) (b : List Piece) (
 
   stay_put : (y : Piece) → y.holder ≡ s → stay (b ++ (y ∷ a)) ≡ stay b ++ (y ∷ stay a)
   unfolding stay
-  stay_put y e = stay_append b (y ∷ a) ∙ rw (ne_eqb y.holder VACANT (λ z. apart (sym e ∙ z)))
+  stay_put y e = grind (arith, nat_tests, stay_append b (y ∷ a))
 
   abbrev less : List Piece
   less = b ++ (vacated x ∷ a)
@@ -207,14 +173,7 @@ module _ (old back : Bool) (s : ℕ) (apart : s ≢ VACANT) where
 length_keys : (old : Bool) (s i : ℕ) (ps : List Piece) → length (keys_of old s i ps) ≤ length ps
 unfolding keys_of
 length_keys old s i [] = omega arith
-length_keys old s i (p ∷ ps) = go (eqb p.holder s) (length_keys old s (suc i) ps)
-  where
-    more : List ℕ
-    more = keys_of old s (suc i) ps
-
-    go : (t : Bool) → length more ≤ length ps → length (cond t (key_of old i p ∷ more) more) ≤ suc (length ps)
-    go true e = omega arith
-    go false e = omega arith
+length_keys old s i (p ∷ ps) = grind (arith, length_keys old s (suc i) ps)
 
 length_order : (old back : Bool) (s i : ℕ) (ps : List Piece) → length (order_of old back s i ps) ≤ length ps
 length_order old true s i ps = rw (length-reverse, length_sort) (length_keys old s i ps)

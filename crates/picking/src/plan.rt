@@ -22,6 +22,7 @@ impl Plan {
 }
 
 // The plan for a weight, with the keys in order.
+#[tactic(auto, using(crate::proofs::Walk::plan_end))]
 pub fn plan_of(pieces: &Pieces, order: Order, weight: u32) -> Plan
     ensures { result ≡ plan_from 0 (in_order order.entry) weight pieces.now }
 {

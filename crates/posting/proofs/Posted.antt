@@ -1,16 +1,16 @@
--- The calls: what the checks of a transfer, a lift and a tip tell lets their motion be carried, and what is answered then is the call on head and
--- table. One law of a posting, `posted`, serves all three; a transfer and a lift are one law more, over the checks and the motion of what takes weight
--- from a vessel.
+-- The calls: what is answered to a transfer, a lift and a tip is the call on head and table. One law of a posting, `posted`, serves all three; a
+-- transfer and a lift are one law more, over the checks and the motion of what takes weight from a vessel.
 -- Assumes nothing.
-use Rattle.std.specs.Prelude.{Result, Ok, Err}
-use Rattle.std.proofs.Common.{◌≡◌, refl, sym, ap, ◌∙◌, Bool, true, false, cond, List, [], ◌∷◌, ℕ, zero, suc, ◌≤◌, ◌<◌, arith, w32, Fits, T, eqb, length, le-ltb}
+use Rattle.std.specs.Prelude.{Result}
+use Rattle.std.proofs.Common.{◌≡◌, refl, sym, ap, ◌∙◌, Bool, true, false, cond, List, [], ◌∷◌, ℕ, zero, suc, ◌≤◌, ◌<◌, arith, T, length, le-ltb}
+use Rattle.std.proofs.lemmas.Bool.Decides.{nat_tests}
 use Rattle.table.specs.Pieces.{held}
 use Rattle.table.specs.Table.{pieces_of, places_of}
 use Rattle.table.proofs.Pieces.{all_map}
 use Rattle.taking.specs.Taking.{taken}
 use Rattle.moving.specs.Applied.{full, applied, table_left}
 use Rattle.refusal.specs.Numbers.{Check, ◌if◌, first, if_zero}
-use Rattle.refusal.proofs.Numbers.{named, not_zero, first_append}
+use Rattle.refusal.proofs.Numbers.{named, first_append}
 use Rattle.book.specs.declared.Head.{Head}
 use Rattle.book.specs.declared.Transfer.{Transfer}
 use Rattle.book.specs.declared.Lift.{Lift}
@@ -18,41 +18,31 @@ use Rattle.book.specs.declared.Tip.{Tip}
 use Rattle.book.specs.declared.Motion.{Motion}
 use Rattle.book.specs.declared.Transferred.{Transferred}
 use Rattle.book.specs.declared.Reply.{Reply}
-use Rattle.book.specs.Head.{Book, the_scale, most_vessels, most_holders, Sized, balance_at, book_of}
+use Rattle.book.specs.Head.{Book, the_scale, most_vessels, most_holders, balance_at, book_of}
 use Rattle.book.specs.Motion.{Standing, of_book, of_head, takes, pieces_after}
 use Rattle.book.specs.Transfer.{transfer_checks, motion_of}
 use Rattle.book.specs.Scale.{lift_checks, tip_checks, lift_motion, tip_motion, as_they_lie}
 use Rattle.book.specs.Calls.{Call, post, lift, tip, tip_on, Meaning, taking, meaning}
 use Rattle.book.specs.Memory.{book_checks, number_of, outcome}
 use Rattle.book.proofs.BalanceLaws.{Holders}
-use Rattle.book.proofs.Checks.{Fit, fit, LiftFit, lift_fit, TipFit, tip_fit}
+use Rattle.book.proofs.Checks.{fit, lift_fit, tip_fit}
 use Rattle.book.proofs.Sound.{number, tip_length, keeps}
 use Rattle.book.proofs.Memory.{number_same, no_place, refused_on, accepted_on, off_number}
 use Rattle.book.proofs.Known.{Known, standing_same}
 use Rattle.carrying.specs.declared.Carried.{Carried}
-use Rattle.carrying.specs.Carrying.{Audited, Carriable, Carries}
+use Rattle.carrying.specs.Carrying.{Audited, Carries}
 use Rattle.refusal.specs.declared.Refusal.{Refusal}
 use Rattle.refusal.specs.Refusals.{outcome_number}
-use Rattle.posting.specs.Posting.{PostsKnown, PostsAny, refused_with, transferred, tipped, Posts, Tips}
-use Rattle.carrying.proofs.Next.{audited, work_known, vessels_fit, next_head_is}
+use Rattle.posting.specs.Posting.{PostsKnown, PostsAny, transferred, tipped, Posts, Tips}
+use Rattle.carrying.proofs.Next.{work_known, vessels_fit, next_head_is}
 
--- What is answered where the posting was refused with number n, and so is the call.
-transferred_refused : (h : Head) (r : Result Carried Refusal) (n : ℕ) → outcome_number r ≡ n → (n ≡ 0 → ⊥) → transferred h r ≡ refused_with h n
-transferred_refused h (Ok c) n e nz = absurd (nz (sym e))
-transferred_refused h (Err why) n e nz = ap (refused_with h) e
-
-tipped_refused : (h : Head) (r : Result Carried Refusal) (n : ℕ) → outcome_number r ≡ n → (n ≡ 0 → ⊥) → tipped h r ≡ record { number = n; head = h }
-tipped_refused h (Ok c) n e nz = absurd (nz (sym e))
-tipped_refused h (Err why) n e nz = ap (λ (n : ℕ). record { number = n; head = h }) e
-
+-- What is promised where the posting was refused with number n, and so is the call.
 module _ (h : Head) (t t' : List ℕ) (r : Result Carried Refusal) where
   posts_refusal : (c : Call) (n : ℕ) → number_of h t c ≡ n → (n ≡ 0 → ⊥) → outcome_number r ≡ n → t' ≡ t → Posts h c t t' (transferred h r)
-  posts_refusal c n e nz er et =
-      let u = refused_on h t c n e nz in record { answer = rw u (transferred_refused h r n er nz); table = rw u et }
+  posts_refusal c n e nz er et = grind (arith, refused_on h t c n e nz)
 
   tips_refusal : (y : Tip) (n : ℕ) → number_of h t (tip y) ≡ n → (n ≡ 0 → ⊥) → outcome_number r ≡ n → t' ≡ t → Tips h y t t' (tipped h r)
-  tips_refusal y n e nz er et =
-      let u = refused_on h t (tip y) n e nz in record { answer = rw u (tipped_refused h r n er nz); table = rw u et }
+  tips_refusal y n e nz er et = grind (arith, refused_on h t (tip y) n e nz)
 
 -- ONE LAW FOR EVERY POSTING. What a call promises holds where the call is refused by its number, and where its motion is carried on a book known to add up.
 module _ (checks : Standing → List Check) (motion : ℕ → Motion) (rule : ℕ → ℕ) (h : Head) (t t' : List ℕ) (r : Result Carried Refusal) (c : Call) (Promise : Type 0)
@@ -75,11 +65,6 @@ module _ (checks : Standing → List Check) (motion : ℕ → Motion) (rule : �
           let q = p.off (λ z. omega (arith, e, z)) in
           refused (suc n) (off_number h t c (suc n) (sym e) (λ z. omega (arith, z))) (λ z. omega (arith, z)) (q.0 ∙ e) q.1
 
--- A book that 1 and 4 let pass adds up, and a posting on it is on any book.
-pub posts_on : (checks : Standing → List Check) (motion : ℕ → Motion) (rule : ℕ → ℕ) (h : Head) (t t' : List ℕ) (r : Result Carried Refusal)
-    → (0 ≡ first (book_checks h t)) × Sized h → PostsKnown checks motion rule h t t' r → PostsAny checks motion rule h t t' r
-posts_on checks motion rule h t t' r e p = record { off = λ nz. absurd (nz (sym e.0)); on = λ z. (audited h t 0 e refl, p) }
-
 -- On a book known to add up.
 module _ (h : Head) (t : List ℕ) (w : Audited h t) where
   abbrev b : Book
@@ -90,9 +75,7 @@ module _ (h : Head) (t : List ℕ) (w : Audited h t) where
 
   number_is : (c : Call) → number_of h t c ≡ first ((meaning c).checks (places_of t) b)
   unfolding number
-  number_is c =
-      let z : eqb (places_of t) 0 ≡ false = sym (no_place t) ∙ le-ltb (length t) 4 w.long in
-      number_same (places_of t) h t b k.on k.sound c ∙ rw z
+  number_is c = grind (arith, nat_tests, number_same (places_of t) h t b k.on k.sound c, no_place t, w.long)
 
   standing : of_head h ≡ of_book b
   standing = standing_same h t k
@@ -105,12 +88,8 @@ module _ (h : Head) (t : List ℕ) (w : Audited h t) where
     taking_number : number_of h t c ≡ if_zero (first (checks (of_head h))) (cond full_now 11 0) (first (checks (of_head h)))
     unfolding takes
     taking_number =
-        number_is c ∙ rw (is, standing) (first_append (checks (of_book b)) (11 if full_now ∷ []) (ok (of_book b)) ∙ go (first (checks (of_book b))) full_now)
-      where
-        go : (n : ℕ) (f : Bool) → if_zero n (first (11 if f ∷ [])) n ≡ if_zero n (cond f 11 0) n
-        go zero true = refl
-        go zero false = refl
-        go (suc n) f = refl
+        let both = first_append (checks (of_book b)) (11 if full_now ∷ []) (ok (of_book b)) in
+        number_is c ∙ rw (is, standing) (grind (arith, both))
 
     module _ (zn : first (checks (of_head h)) ≡ 0) (source_in : m.moves.source < most_holders) (destination_in : m.moves.destination < most_holders)
         (t' : List ℕ) (r : Result Carried Refusal) (p : Carries h h.rule m t t' r) where
@@ -118,13 +97,9 @@ module _ (h : Head) (t : List ℕ) (w : Audited h t) where
       decided = taking_number ∙ rw zn
 
       -- no place was left
-      at_none : full_now ≡ true → outcome_number r ≡ 11
-      unfolding applied
-      at_none e = rw p.answer (rw e)
-
       at_full : full_now ≡ true → Posts h c t t' (transferred h r)
       unfolding applied table_left
-      at_full e = posts_refusal h t t' r c 11 (decided ∙ rw e) (λ q. omega arith) (at_none e) (p.table ∙ rw e)
+      at_full e = posts_refusal h t t' r c 11 (decided ∙ rw e) (λ q. omega arith) (rw p.answer (rw e)) (p.table ∙ rw e)
 
       -- accepted
       at_last : full_now ≡ false → Posts h c t t' (transferred h r)
@@ -160,28 +135,10 @@ module _ (h : Head) (t : List ℕ) (c : Call) (checks : Standing → List Check)
   taking_posts : PostsAny checks (λ _. m) (λ rule. rule) h t t' r → Posts h c t t' (transferred h r)
   taking_posts = posted checks (λ _. m) (λ rule. rule) h t t' r c (Posts h c t t' (transferred h r)) (posts_refusal h t t' r c) own done
 
--- A transfer: what its checks tell.
+-- A transfer, between two vessels.
 module _ (h : Head) (x : Transfer) where
-  transfer_fit : first (transfer_checks (of_head h) x) ≡ 0 → Fit (of_head h) x
-  transfer_fit = fit (of_head h) x
-
-  pub transfer_in_time : first (transfer_checks (of_head h) x) ≡ 0 → x.age ≤ x.minute
-  transfer_in_time z = (transfer_fit z).in_time
-
-  pub transfer_carriable : first (transfer_checks (of_head h) x) ≡ 0 → h.vessels ≤ most_vessels → Fits w32 h.accepted → (m : Motion) → m ≡ motion_of x → Carriable h m
-  transfer_carriable z few light m em =
-      let f = transfer_fit z in
-      let u = f.tally in
-      rw em (record {
-        source_in = omega (arith, f.source_in);
-        destination_in = omega (arith, f.destination_in);
-        apart = f.apart;
-        room = f.room;
-        tally = omega (arith, light.fits);
-      })
-
   holders_in : h.vessels ≤ most_vessels → first (transfer_checks (of_head h) x) ≡ 0 → (x.source < most_holders) × (x.destination < most_holders)
-  holders_in few z = let f = transfer_fit z in (omega (arith, f.source_in), omega (arith, f.destination_in))
+  holders_in few z = grind (arith, fit (of_head h) x z)
 
   module _ (t t' : List ℕ) (r : Result Carried Refusal) where
     pub transfer_known_posts : Audited h t → PostsKnown (λ g. transfer_checks g x) (λ _. motion_of x) (λ rule. rule) h t t' r → Posts h (post x) t t' (transferred h r)
@@ -192,49 +149,16 @@ module _ (h : Head) (x : Transfer) where
     unfolding transfer_checks
     transfer_posts z ez p = rw ez (taking_posts h t (post x) (λ g. transfer_checks g x) (motion_of x) refl (λ g. tt) holders_in t' r p)
 
--- A lift: the scale is bare, so that it has room for every weight of 32 bits.
+-- A lift, onto the scale.
 module _ (h : Head) (x : Lift) where
-  lift_passed : first (lift_checks (of_head h) x) ≡ 0 → LiftFit (of_head h) x
-  lift_passed = lift_fit (of_head h) x
-
-  pub lift_in_time : first (lift_checks (of_head h) x) ≡ 0 → x.age ≤ x.minute
-  lift_in_time z = (lift_passed z).in_time
-
-  pub lift_carriable : first (lift_checks (of_head h) x) ≡ 0 → h.vessels ≤ most_vessels → Fits w32 h.accepted → Fits w32 x.weight → (m : Motion) → m ≡ lift_motion x → Carriable h m
-  lift_carriable z few light weight m em =
-      let f = lift_passed z in
-      let u = f.tally in
-      rw em (record {
-        source_in = omega (arith, f.source_in);
-        destination_in = omega arith;
-        apart = λ e. omega (arith, f.source_in);
-        room = omega (arith, f.bare, weight.fits);
-        tally = omega (arith, light.fits);
-      })
-
   pub lift_posts : (t t' : List ℕ) (r : Result Carried Refusal) (z : Transferred) → z ≡ transferred h r
       → PostsAny (λ g. lift_checks g x) (λ _. lift_motion x) (λ rule. rule) h t t' r → Posts h (lift x) t t' z
   unfolding lift_checks
   lift_posts t t' r z ez p =
-      rw ez (taking_posts h t (lift x) (λ g. lift_checks g x) (lift_motion x) refl (λ g. tt) (λ few q. let f = lift_passed q in (omega (arith, f.source_in), omega arith)) t' r p)
+      rw ez (taking_posts h t (lift x) (λ g. lift_checks g x) (lift_motion x) refl (λ g. tt) (λ few q. grind (arith, lift_fit (of_head h) x q)) t' r p)
 
 -- A tip: all that is on the scale goes whole, so that there is always a place for it.
 module _ (h : Head) (y : Tip) where
-  tip_passed : first (tip_checks (of_head h) y) ≡ 0 → TipFit (of_head h) y
-  tip_passed = tip_fit (of_head h) y
-
-  pub tip_carriable : first (tip_checks (of_head h) y) ≡ 0 → h.vessels ≤ most_vessels → Fits w32 h.accepted → (m : Motion) → m ≡ tip_motion h.scale y → Carriable h m
-  unfolding balance_at
-  tip_carriable z few light m em =
-      let f = tip_passed z in
-      rw em (record {
-        source_in = omega arith;
-        destination_in = omega (arith, f.destination_in);
-        apart = λ e. omega (arith, f.destination_in);
-        room = f.room;
-        tally = omega (arith, light.fits);
-      })
-
   module _ (t t' : List ℕ) (r : Result Carried Refusal) where
     tip_own : Audited h t → (n : ℕ) → first (tip_checks (of_head h) y) ≡ n → number_of h t (tip y) ≡ n
     tip_own w n e = number_is h t w (tip y) ∙ sym (ap (λ (g : Standing). first (tip_checks g y)) (standing h t w)) ∙ e
@@ -251,9 +175,7 @@ module _ (h : Head) (y : Tip) where
         let o = accepted_on h t (tip y) ea in
         let s = (keeps (places_of t) b (tip y) (k h t w).sound (sym (number_same (places_of t) h t b (k h t w).on (k h t w).sound (tip y)) ∙ ea)).sound.sound in
         let u : Holders h.vessels (pieces_after b as_they_lie (tip_on b y)) = all_map (λ q g. g.holder_in) s in
-        let f = tip_passed z in
-        let few = vessels_fit h t w in
-        let d : y.destination < most_holders = omega (arith, f.destination_in) in
+        let d : y.destination < most_holders = grind (arith, tip_fit (of_head h) y z, vessels_fit h t w) in
         record { answer = rw o (ap (tipped h) q.answer ∙ rw (e, next_head_is h t w as_they_lie (tip_on b y) (omega arith) d u)); table = rw o (q.table ∙ rw e) }
 
     pub tip_posts : (z : Reply) → z ≡ tipped h r → PostsAny (λ g. tip_checks g y) (λ weight. tip_motion weight y) (λ _. as_they_lie) h t t' r → Tips h y t t' z

@@ -62,6 +62,7 @@ fn post_known<P: Posting>(
 }
 
 // A posting on any book.
+#[tactic(auto, using(carrying::proofs::Next::audited))]
 fn post<P: Posting>(head: Head, table: &mut [u32], p: P) -> Result<Carried, Refusal>
     ensures { PostsAny (P.checks p) (P.motion p) (P.rule p) head table.old table.new result }
 {

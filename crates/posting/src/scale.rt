@@ -39,6 +39,7 @@ impl Posting for Lift {
         Ok(())
     }
 
+    #[tactic(auto, using(std::proofs::lemmas::Bool::Decides::nat_tests), unfolding(book::specs::Scale::lift_checks, book::specs::Head::balance_at))]
     fn motion(self, _head: Head) -> Motion {
         carrying::lift_motion(self)
     }
@@ -73,6 +74,7 @@ impl Posting for Tip {
         Ok(())
     }
 
+    #[tactic(auto, using(std::proofs::lemmas::Bool::Decides::nat_tests), unfolding(book::specs::Scale::tip_checks, book::specs::Head::balance_at))]
     fn motion(self, head: Head) -> Motion {
         carrying::tip_motion(head, self)
     }

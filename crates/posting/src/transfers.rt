@@ -43,6 +43,7 @@ impl Posting for Transfer {
         Ok(())
     }
 
+    #[tactic(auto, using(std::proofs::lemmas::Bool::Decides::nat_tests), unfolding(book::specs::Transfer::transfer_checks))]
     fn motion(self, _head: Head) -> Motion {
         carrying::motion_of(self)
     }

@@ -1,7 +1,7 @@
 -- Laws of a refusal's number, of the outcome of checks, and of what `?` makes of one.
 -- Assumes nothing.
-use Rattle.std.proofs.Common.{ℕ, ◌≡◌, arith, ap, ◌∙◌}
-use Rattle.std.specs.Prelude.{Result, Ok, Err}
+use Rattle.std.proofs.Common.{ℕ, ◌≡◌, arith}
+use Rattle.std.specs.Prelude.{Result}
 use Rattle.std.specs.Result.{IsErr, IsErrAnd}
 use Rattle.refusal.specs.declared.Refusal.{Refusal}
 use Rattle.refusal.specs.Refusals.{number_of, outcome_number}
@@ -15,8 +15,7 @@ refused r h e = grind arith
 
 -- a refusal that is passed on keeps its number
 pub passed_on : {T : Type 0} (r : Result T Refusal) (why : Refusal) (n : ℕ) → IsErrAnd r (λ (other : Refusal). other ≡ why) → number_of why ≡ n → outcome_number r ≡ n
-passed_on (Ok x) why n h e = absurd h
-passed_on (Err other) why n h e = ap number_of h ∙ e
+passed_on r why n h e = grind arith
 
 -- both, for the way out of a `?`
 pub ruleset outcomes = (refused, passed_on)

@@ -1,20 +1,19 @@
 -- A report on head and table: its refusals, and its acceptance on a book known to add up. One law for all three reports.
 -- Assumes nothing.
-use Rattle.std.proofs.Common.{◌≡◌, refl, sym, ap, ◌∙◌, false, List, ◌∷◌, ℕ, ◌*◌, ◌≤◌, zero, suc, arith, ltb, length, ltb-false}
+use Rattle.std.proofs.Common.{◌≡◌, refl, sym, ap, ◌∙◌, false, List, ◌∷◌, ℕ, ◌*◌, ◌≤◌, arith, ltb, length, ltb-false}
 use Rattle.table.specs.Pieces.{held}
-use Rattle.table.specs.Table.{pieces_of, places_of}
+use Rattle.table.specs.Table.{pieces_of}
 use Rattle.table.proofs.Pieces.{all_map}
 use Rattle.refusal.specs.Numbers.{first}
 use Rattle.refusal.specs.declared.Refusal.{Refusal}
 use Rattle.refusal.specs.Refusals as Refusals
-use Rattle.refusal.proofs.Numbers.{past}
 use Rattle.refusal.proofs.Refusals.{some_number}
 use Rattle.book.specs.declared.Head.{Head}
 use Rattle.book.specs.declared.Reply.{Reply}
-use Rattle.book.specs.Head.{the_scale, Sized, book_of}
+use Rattle.book.specs.Head.{the_scale, Sized}
 use Rattle.book.specs.Motion.{Standing, of_head, loaded}
-use Rattle.book.specs.Calls.{ask, meaning}
-use Rattle.book.specs.Memory.{outcome, book_checks, number_of, call_on}
+use Rattle.book.specs.Calls.{ask}
+use Rattle.book.specs.Memory.{book_checks, number_of, call_on}
 use Rattle.book.specs.Reports.{report_row, report_checks, onto}
 use Rattle.book.specs.declared.Report.{Report}
 use Rattle.book.specs.declared.Report.TheVariants.{Whole}
@@ -28,18 +27,17 @@ use Rattle.filling.specs.Scatter.{Reportable}
 module _ (h : Head) (t : List ℕ) (q : Report) (room : List ℕ) where
   -- its number, as checks 1 and 4 find it
   pub asked_off : (n : ℕ) → (n ≡ first (book_checks h t)) × Sized h → (n ≡ 0 → ⊥) → Judged h q t room n
-  asked_off n (e, sized) nz = record { number = sym (off_number h t (ask q room) n e nz); sized = sized }
+  asked_off n e nz = grind (arith, off_number h t (ask q room) n)
 
   -- and as its own do, past checks 1 and 4
   pub asked_on : (0 ≡ first (book_checks h t)) × Sized h → (n : ℕ) → n ≡ first (loaded (of_head h) ∷ report_checks h.vessels (length room) q) → Judged h q t room n
   asked_on up n en =
-      let own : n ≡ first ((meaning (ask q room)).checks (places_of t) (book_of h t)) =
-      en ∙ ap (λ (g : Standing). first (loaded g ∷ report_checks h.vessels (length room) q)) (standing_same h t (known h t 0 up refl)) in
-      record { number = own ∙ sym (on_number h t (ask q room) 0 up.0 refl); sized = up.1 }
+      let same = ap (λ (g : Standing). first (loaded g ∷ report_checks h.vessels (length room) q)) (standing_same h t (known h t 0 up refl)) in
+      grind (arith, same, on_number h t (ask q room) 0 up.0)
 
   -- refused
   pub asked_refused : (why : Refusal) → Judged h q t room (Refusals.number_of why) → (n : ℕ) → n ≡ Refusals.number_of why → Asks h q t room room (record { number = n; head = h })
-  asked_refused why e n en = rw en (let r = refused_on h t (ask q room) (Refusals.number_of why) (sym e.number) (some_number why) in record { answer = rw r; room = rw r })
+  asked_refused why e n en = let r = refused_on h t (ask q room) (Refusals.number_of why) (sym e.number) (some_number why) in grind (arith, r)
 
   module _ (n : ℕ) (e : Judged h q t room n) where
     -- accepted: what writing it asks, and what is written
@@ -54,7 +52,7 @@ module _ (h : Head) (t : List ℕ) (q : Report) (room : List ℕ) where
       book = known h t 0 (up, e.sized) refl
 
       own : (ltb 0 (held the_scale (pieces_of h.pieces t)) ≡ false) × (first (report_checks h.vessels (length room) q) ≡ 0)
-      own = past 21 (ltb 0 (held the_scale (pieces_of h.pieces t))) (report_checks h.vessels (length room) q) (sym (on_number h t (ask q room) 0 up refl) ∙ passed_all)
+      own = grind (arith, on_number h t (ask q room) 0 up)
 
       pub asked_there : 4 * h.pieces ≤ length t
       asked_there = book.there
@@ -75,16 +73,17 @@ module _ (h : Head) (t : List ℕ) (q : Report) (room : List ℕ) where
 pub asked_square : (h : Head) (t room : List ℕ) (n : ℕ) → Judged h Whole t room n → n ≡ 0 → h.vessels * h.vessels ≤ length room
 asked_square h t room n e zn = whole_room h.vessels (length room) Whole refl (asked_fits h t Whole room n e zn)
 
+-- what a report that is accepted asks and gives
+pub ruleset accepted = (asked_there, asked_fits, asked_square, asked_reportable, asked_accepted)
+
 -- EITHER WAY: the promise leaves nothing open, so that two functions that keep it give the same answer and leave the same numbers. `whole` and
 -- `whole_by_rows` are such two.
 pub either_way : {h : Head} {q : Report} {t room r r' : List ℕ} {z z' : Reply} → Asks h q t room r z → Asks h q t room r' z' → (z ≡ z') × (r ≡ r')
-either_way a b = (a.answer ∙ sym b.answer, a.room ∙ sym b.room)
+either_way a b = grind arith
 
 -- REPORTS CHANGE NOTHING: refused or accepted, the head and the table are as they were.
 pub asked_nothing : (h : Head) (t : List ℕ) (q : Report) (room : List ℕ) → ((call_on h t (ask q room)).head ≡ h) × ((call_on h t (ask q room)).table ≡ t)
 unfolding call_on
-asked_nothing h t q room = go (number_of h t (ask q room)) refl
-  where
-    go : (n : ℕ) → number_of h t (ask q room) ≡ n → ((outcome h t (meaning (ask q room)) n).head ≡ h) × ((outcome h t (meaning (ask q room)) n).table ≡ t)
-    go zero e = (sym (adds_head h t (adds_up_told h t (book_passed h t (passed_book h t (ask q room) e)).1)), refl)
-    go (suc n) e = (refl, refl)
+asked_nothing h t q room =
+    let kept = λ (e : number_of h t (ask q room) ≡ 0). adds_head h t (adds_up_told h t (book_passed h t (passed_book h t (ask q room) e)).1) in
+    grind (arith, kept)

@@ -49,6 +49,7 @@ fn check_asked(head: Head, asked: Report, room: usize) -> Result<(), Refusal>
 }
 
 // All checks of a report.
+#[tactic(auto, using(crate::proofs::Asked::asked_on))]
 fn check(head: Head, table: &[u32], asked: Report, room: &[u32]) -> Result<(), Refusal>
     ensures { Judged head asked table.now room.now (outcome_number result) }
 {
@@ -57,6 +58,7 @@ fn check(head: Head, table: &[u32], asked: Report, room: &[u32]) -> Result<(), R
 }
 
 // What is asked of the book, written to the room.
+#[tactic(auto, using(crate::proofs::Asked::accepted))]
 pub fn report(head: Head, table: &[u32], asked: Report, room: &mut [u32]) -> Reply
     ensures { Asks head asked table.now room.old room.new result }
 {
@@ -95,6 +97,7 @@ pub fn whole(head: Head, table: &[u32], room: &mut [u32]) -> Reply
 }
 
 // The same, row by row: each is made by the held report of its vessel.
+#[tactic(auto, using(crate::proofs::Asked::accepted))]
 pub fn whole_by_rows(head: Head, table: &[u32], room: &mut [u32]) -> Reply
     ensures { Asks head Whole table.now room.old room.new result }
 {

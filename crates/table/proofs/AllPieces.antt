@@ -1,8 +1,9 @@
 -- The laws of pieces that are read as one value: they lie in numbers of their own, with nothing behind them but less than a piece.
 -- Assumes nothing.
-use Rattle.std.proofs.Common.{◌≡◌, sym, ap, ◌∙◌, inl, inr, List, [], ◌∷◌, append-nil, ℕ, suc, ◌+◌, ◌*◌, ◌/◌, ◌≤◌, ◌<◌, arith, length, take, drop, length-take, None, Some}
+use Rattle.std.proofs.Common.{◌≡◌, sym, ap, ◌∙◌, List, [], ◌∷◌, append-nil, ℕ, suc, ◌+◌, ◌*◌, ◌/◌, ◌≤◌, ◌<◌, arith, length, take, drop, length-take, None, Some}
 use Rattle.std.specs.List.{slice_get}
 use Rattle.std.proofs.lemmas.Option.{slice_get-get_or, slice_get_cases}
+use Rattle.std.proofs.lemmas.Grind.{common_steps}
 use Rattle.table.specs.declared.Piece.{Piece}
 use Rattle.table.specs.Pieces.{no_piece}
 use Rattle.table.specs.Table.{first_piece, pieces_of, all_pieces, piece_in}
@@ -22,21 +23,15 @@ pub piece_there : (t : List ℕ) (n i : ℕ) (p : Piece) → n ≡ length t / 4 
 piece_there t n i p en h ep = rw (ep, en) (sym (slice_get-get_or (all_pieces t) i no_piece (rw length_pieces (rw en at h))))
 
 pub no_piece_there : (t : List ℕ) (i : ℕ) → length t / 4 ≤ i → None ≡ slice_get (all_pieces t) i
-no_piece_there t i h = elim (slice_get_cases (all_pieces t) i).1 [
-  | inl (x, below, _, _) ↦ absurd (omega (arith, length_pieces (length t / 4) t))
-  | inr (_, none) ↦ sym none
-]
+no_piece_there t i h = grind (arith, slice_get_cases (all_pieces t) i, length_pieces (length t / 4) t)
 
 -- the first piece, and those behind it
 pub next_piece : (t first rest : List ℕ) → first ≡ take 4 t → rest ≡ drop 4 t → length rest + 4 ≡ length t → all_pieces t ≡ first_piece first ∷ all_pieces rest
 unfolding pieces_of
-next_piece [] first rest f e l = absurd (omega arith)
-next_piece (a ∷ []) first rest f e l = absurd (omega arith)
-next_piece (a ∷ b ∷ []) first rest f e l = absurd (omega arith)
-next_piece (a ∷ b ∷ c ∷ []) first rest f e l = absurd (omega arith)
-next_piece (a ∷ b ∷ c ∷ d ∷ t) first rest f e l =
-    let count : length (a ∷ b ∷ c ∷ d ∷ t) / 4 ≡ suc (length t / 4) = omega arith in
-    rw (f, e) (ap (λ (k : ℕ). pieces_of k (a ∷ b ∷ c ∷ d ∷ t)) count)
+next_piece t first rest f e l =
+    let count : length t / 4 ≡ suc (length rest / 4) = omega arith in
+    let here : first_piece (take 4 t) ≡ first_piece t = grind (arith, common_steps) in
+    rw (f, here, count, e)
 
 pub no_next_piece : (t : List ℕ) → length t < 4 → all_pieces t ≡ []
 unfolding pieces_of

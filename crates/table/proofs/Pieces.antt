@@ -1,6 +1,7 @@
 -- Laws of sums over pieces, and of a property of every piece.
 -- Assumes nothing.
-use Rattle.std.proofs.Common.{◌≡◌, refl, ◌≢◌, Bool, true, false, cond, List, [], ◌∷◌, ◌++◌, ℕ, ◌+◌, ◌≤◌, min, arith, eqb, length, eqb-true}
+use Rattle.std.proofs.Common.{◌≡◌, refl, ◌≢◌, Bool, true, false, cond, List, [], ◌∷◌, ◌++◌, ℕ, ◌+◌, ◌≤◌, min, arith, eqb, length}
+use Rattle.std.proofs.lemmas.Bool.Decides.{nat_tests}
 use borrow.Author.Tests.{eqb-false}
 use Rattle.table.specs.declared.Piece.{Piece}
 use Rattle.table.specs.Pieces.{of_weight, if_any, only, total, Kind, weigh, sum, All, done, also}
@@ -10,31 +11,21 @@ total_append f [] qs = omega arith
 total_append f (p ∷ ps) qs = omega (arith, total_append f ps qs)
 
 pub only_add : (b : Bool) (m n : ℕ) → only b (m + n) ≡ only b m + only b n
-only_add true m n = refl
-only_add false m n = refl
+only_add b m n = grind arith
 
 pub only_zero : (b : Bool) → only b 0 ≡ 0
-only_zero true = refl
-only_zero false = refl
+only_zero b = grind arith
 
 -- a piece without weight adds nothing, so whether it is there makes no odds
 pub sum_if_any : (k : Kind) (p : Piece) → sum k (if_any p) ≡ weigh k p
-sum_if_any k p = go (eqb p.weight 0) refl
-  where
-    go : (b : Bool) → eqb p.weight 0 ≡ b → sum k (cond b [] (p ∷ [])) ≡ weigh k p
-    go true e = rw (eqb-true p.weight 0 e, only_zero)
-    go false e = omega arith
+sum_if_any k p = grind (arith, nat_tests)
 
 pub length_if_any : (p : Piece) → length (if_any p) ≡ min 1 p.weight
-length_if_any p = go (eqb p.weight 0) refl
-  where
-    go : (b : Bool) → eqb p.weight 0 ≡ b → length (cond b [] (p ∷ [])) ≡ min 1 p.weight
-    go true e = let h : p.weight ≡ 0 = eqb-true _ _ e in omega arith
-    go false e = let h : p.weight ≢ 0 = eqb-false _ _ e in omega arith
+length_if_any p = grind (arith, nat_tests)
 
 -- a piece in two parts
 pub in_two : (k : Kind) (p : Piece) (m n : ℕ) → p.weight ≡ m + n → weigh k p ≡ weigh k (of_weight m p) + weigh k (of_weight n p)
-in_two k p m n e = rw (e, only_add)
+in_two k p m n e = grind arith
 
 module _ {ℓ} {P : Piece → Type ℓ} where
   pub all_append : {ps qs : List Piece} → All P ps → All P qs → All P (ps ++ qs)

@@ -1,7 +1,7 @@
 -- The laws of a table of pieces. Each is by induction over lists of the form `flat ps ++ rest`, at places counted by `quad`,
 -- which computes where `4 * n` does not.
 -- Assumes nothing.
-use Rattle.std.proofs.Common.{ℕ, zero, suc, ◌+◌, ◌-◌, ◌*◌, ◌≤◌, ◌<◌, not-suc-le-zero, le_of_suc-le-suc, add-zero, arith, ◌≡◌, refl, sym, ap, ◌∙◌, List, [], ◌∷◌, ◌++◌, add-one, length, get_or, take, drop, set, length-set, drop-drop, get_or-drop, take-suc-set, take_at}
+use Rattle.std.proofs.Common.{ℕ, zero, suc, ◌+◌, ◌-◌, ◌*◌, ◌≤◌, ◌<◌, not-suc-le-zero, le_of_suc-le-suc, add-zero, arith, ◌≡◌, refl, sym, ap, ◌∙◌, List, [], ◌∷◌, ◌++◌, add-one, length, get_or, take, drop, set, length-set, drop-drop, get_or-drop, take-suc-set, take_at, drop_at}
 use native.Mathlib.Numerals.{towards_suc}
 use lib.ListN.{get_or-eq_default}
 use lib.Seq.{sets, set_out}
@@ -34,13 +34,11 @@ numbers p = p.holder ∷ p.origin ∷ p.birth ∷ p.weight ∷ []
 pub split : (n : ℕ) (t : List ℕ) → quad n ≤ length t → t ≡ flat (pieces_of n t) ++ drop (quad n) t
 unfolding pieces_of flat
 split zero t h = refl
-split (suc n) [] h = absurd (not-suc-le-zero h)
-split (suc n) (a ∷ []) h = absurd (not-suc-le-zero (le_of_suc-le-suc h))
-split (suc n) (a ∷ b ∷ []) h = absurd (not-suc-le-zero (le_of_suc-le-suc (le_of_suc-le-suc h)))
-split (suc n) (a ∷ b ∷ c ∷ []) h = absurd (not-suc-le-zero (le_of_suc-le-suc (le_of_suc-le-suc (le_of_suc-le-suc h))))
-split (suc n) (a ∷ b ∷ c ∷ d ∷ t) h =
-    ap (λ (l : List ℕ). a ∷ b ∷ c ∷ d ∷ l)
-    (split n t (le_of_suc-le-suc (le_of_suc-le-suc (le_of_suc-le-suc (le_of_suc-le-suc h)))))
+split (suc n) [] h = absurd (omega arith)
+split (suc n) (a ∷ []) h = absurd (omega arith)
+split (suc n) (a ∷ b ∷ []) h = absurd (omega arith)
+split (suc n) (a ∷ b ∷ c ∷ []) h = absurd (omega arith)
+split (suc n) (a ∷ b ∷ c ∷ d ∷ t) h = grind (arith, split n t)
 
 -- the numbers of the first pieces are the first numbers
 pub flat_pieces : (n : ℕ) (t : List ℕ) → 4 * n ≤ length t → flat (pieces_of n t) ≡ take (4 * n) t
@@ -59,11 +57,6 @@ unfolding pieces_of flat
 pieces_flat [] rest = refl
 pieces_flat (p ∷ ps) rest = ap (λ (l : List Piece). p ∷ l) (pieces_flat ps rest)
 
-pub rest_flat : (ps : List Piece) (rest : List ℕ) → drop (quad (length ps)) (flat ps ++ rest) ≡ rest
-unfolding flat
-rest_flat [] rest = refl
-rest_flat (p ∷ ps) rest = rest_flat ps rest
-
 pub at_flat : (ps : List Piece) (rest : List ℕ) (i : ℕ) → i < length ps → first_piece (drop (quad i) (flat ps ++ rest)) ≡ get_or ps i no_piece
 unfolding flat
 at_flat [] rest i h = absurd (not-suc-le-zero h)
@@ -74,8 +67,7 @@ pub put_flat : (ps : List Piece) (rest : List ℕ) (i : ℕ) (p : Piece) → i <
 unfolding flat
 put_flat [] rest i p h = absurd (not-suc-le-zero h)
 put_flat (q ∷ ps) rest zero p h = refl
-put_flat (q ∷ ps) rest (suc i) p h =
-    ap (λ (l : List ℕ). q.holder ∷ q.origin ∷ q.birth ∷ q.weight ∷ l) (put_flat ps rest i p (le_of_suc-le-suc h))
+put_flat (q ∷ ps) rest (suc i) p h = grind (arith, put_flat ps rest i p)
 
 -- the four numbers at place i
 abbrev pub piece_at : List ℕ → ℕ → Piece
@@ -104,7 +96,7 @@ pub pieces_over : (n : ℕ) (ps : List Piece) (rest : List ℕ) → length ps �
 pieces_over n ps rest e = rw (← e) (pieces_flat ps rest)
 
 pub rest_over : (n : ℕ) (ps : List Piece) (rest : List ℕ) → length ps ≡ n → drop (4 * n) (flat ps ++ rest) ≡ rest
-rest_over n ps rest e = rw (← e, quad_is) (rest_flat ps rest)
+rest_over n ps rest e = drop_at (flat ps) rest (4 * n) (length_flat ps ∙ rw (e, quad_is))
 
 -- the first pieces of a table
 pub pieces_take : (j n : ℕ) (t : List ℕ) → j ≤ n → take j (pieces_of n t) ≡ pieces_of j t
@@ -128,7 +120,7 @@ pub no_piece_there : (n i : ℕ) (t : List ℕ) → n ≤ i → no_piece ≡ pie
 no_piece_there n i t h = sym (get_or-eq_default (pieces_of n t) no_piece {n = i} (rw length_pieces h))
 
 pub not_put : (n i : ℕ) (t : List ℕ) (p : Piece) → n ≤ i → 4 * n ≤ length t → t ≡ put_in n i p t
-not_put n i t p h g = rw (set_out (pieces_of n t) i p (rw length_pieces h)) (formed n t g)
+not_put n i t p h g = grind (arith, set_out (pieces_of n t) i p, length_pieces n t, formed n t g)
 
 -- a piece was put at place c
 module _ (n c : ℕ) (t t' : List ℕ) (p : Piece) (e : t' ≡ put_in n c p t) where

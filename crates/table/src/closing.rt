@@ -10,6 +10,7 @@ pub const VACANT: u32 = refusal::TOP;
 
 // The pieces that are not vacant close up; the answer is their count. The numbers that this frees are left as they are.
 // Table and count stand beside each other here and below: the table is lent by C and written in place.
+#[tactic(auto, using(crate::proofs::ClosingUp::close_start, crate::proofs::ClosingUp::close_end))]
 fn close_up(table: &mut [u32], n: usize) -> usize
     requires { (n ≤ most_places) × (4 * n ≤ length table.old) }
     ensures { Closes n table.old table.new result }
