@@ -1,10 +1,10 @@
 -- The rows of all vessels, one behind the other, are a square: the number of origin u in the row of vessel v is the one at v × size + u. So one pass
 -- over the pieces, each entered at its origin in the row of its holder, fills what the rows are.
 -- Assumes nothing.
-use Rattle.std.proofs.Common.{◌≡◌, refl, sym, ap, ◌∙◌, Bool, true, false, ◌&&◌, List, ◌++◌, ℕ, zero, suc, ◌+◌, ◌*◌, ◌≤◌, ◌<◌, zero-add, zero-mul, suc-mul, add_comm, mul-le-mul_right, arith, ltb, eqb, length, ltb-true, ltb-false, eqb-true, eq-eqb, ne_eqb}
-use borrow.Author.Tests.{eqb-false}
+use Rattle.std.proofs.Common.{◌≡◌, refl, sym, ap, ◌∙◌, ◌&&◌, List, ◌++◌, ℕ, zero, suc, ◌+◌, ◌*◌, ◌≤◌, ◌<◌, zero-add, zero-mul, suc-mul, add_comm, mul-le-mul_right, arith, eqb}
+use Rattle.std.proofs.lemmas.Bool.Decides.{nat_tests}
 use Rattle.table.specs.declared.Piece.{Piece}
-use Rattle.table.specs.Pieces.{only, sum, All, done, also}
+use Rattle.table.specs.Pieces.{sum, All, done, also}
 use Rattle.table.proofs.Pieces.{all_map, all_both}
 use Rattle.book.specs.Head.{tab}
 use Rattle.book.specs.declared.Report.TheVariants.{Whole}
@@ -14,36 +14,21 @@ use Rattle.filling.specs.Scatter.{every, cell_of, tally, one_pass}
 use Rattle.filling.proofs.Scattered.{scattered}
 
 -- a row ends where the next one starts, or before
-pub row_below : (m v w : ℕ) → v < w → v * m + m ≤ w * m
+row_below : (m v w : ℕ) → v < w → v * m + m ≤ w * m
 row_below m v w h = rw (← suc-mul) (mul-le-mul_right m h)
 
 -- a number of the square tells its row and its place in it
 module _ (m v u w x : ℕ) (hu : u < m) (hx : x < m) where
   same_cell : v * m + u ≡ w * m + x → (v ≡ w) × (u ≡ x)
-  same_cell e = go (ltb v w) refl (ltb w v) refl
-    where
-      go : (b : Bool) → ltb v w ≡ b → (c : Bool) → ltb w v ≡ c → (v ≡ w) × (u ≡ x)
-      go true eb c ec = absurd (omega (arith, row_below m v w (ltb-true v w eb)))
-      go false eb true ec = absurd (omega (arith, row_below m w v (ltb-true w v ec)))
-      go false eb false ec = let k : v ≡ w = omega (arith, ltb-false v w eb, ltb-false w v ec) in (k, omega (arith, ap (λ (y : ℕ). y * m) k))
+  same_cell e = grind (arith, nat_tests, e, row_below m v w, row_below m w v)
 
   cell : eqb (v * m + u) (w * m + x) ≡ eqb u x && eqb v w
-  cell = go (eqb u x) refl (eqb v w) refl
-    where
-      go : (b : Bool) → eqb u x ≡ b → (c : Bool) → eqb v w ≡ c → eqb (v * m + u) (w * m + x) ≡ b && c
-      go true eb true ec = let k : v ≡ w = eqb-true v w ec in eq-eqb (v * m + u) (w * m + x) (rw k (ap (λ (y : ℕ). w * m + y) (eqb-true u x eb)))
-      go true eb false ec = ne_eqb (v * m + u) (w * m + x) (λ e. eqb-false v w ec (same_cell e).0)
-      go false eb c ec = ne_eqb (v * m + u) (w * m + x) (λ e. eqb-false u x eb (same_cell e).1)
+  cell = grind (arith, nat_tests, same_cell)
 
 -- what is entered there is the weight of origin u in vessel v
 pub tally_square : (m v u : ℕ) → u < m → {ps : List Piece} → All (λ p. p.origin < m) ps → tally every (cell_of m) ps (v * m + u) ≡ sum (from_origin v u) ps
 tally_square m v u h done = refl
-tally_square m v u h (also {p = p} g x) =
-    omega (arith, ap (λ (b : Bool). only (b && true) p.weight) (cell m p.holder p.origin v u g h), go (eqb p.origin u && eqb p.holder v), tally_square m v u h x)
-  where
-    go : (b : Bool) → only (b && true) p.weight ≡ only b p.weight
-    go true = refl
-    go false = refl
+tally_square m v u h (also {p = p} g x) = grind (arith, cell m p.holder p.origin v u g h, tally_square m v u h x)
 
 -- rows are the square
 module _ (m : ℕ) (ps : List Piece) (o : All (λ p. p.origin < m) ps) where
@@ -66,6 +51,6 @@ pub cells_inside : (m : ℕ) {ps : List Piece} → All (λ p. p.holder < m) ps �
 cells_inside m h o = all_map (λ p (below, inside). omega (arith, row_below m p.holder m below)) (all_both h o)
 
 -- ONE PASS: "go over the pieces once and add each where it belongs." Over numbers cleared before, that is the whole report.
-pub rows_in_one_pass : (m : ℕ) (room : List ℕ) {ps : List Piece} → m * m ≤ length room → All (λ p. p.holder < m) ps → All (λ p. p.origin < m) ps
+pub rows_in_one_pass : (m : ℕ) (room : List ℕ) {ps : List Piece} → All (λ p. p.holder < m) ps → All (λ p. p.origin < m) ps
     → one_pass (m * m) every (cell_of m) room ps ≡ onto (report_row m ps Whole) room
-rows_in_one_pass m room {ps} fits h o = scattered _ _ (m * m) room ps fits (cells_inside m h o) ∙ ap (λ (w : List ℕ). onto w room) (sym (rows_square m ps o))
+rows_in_one_pass m room {ps} h o = scattered _ _ (m * m) room ps (cells_inside m h o) ∙ ap (λ (w : List ℕ). onto w room) (sym (rows_square m ps o))

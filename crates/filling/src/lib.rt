@@ -5,7 +5,7 @@
 ghost use Rattle.std.specs.Prelude.{◌≡◌, ◌≤◌, ◌*◌, Bool, if◌then◌else◌, ℕ, length};
 ghost use Rattle.table.specs.declared.Piece.{Piece};
 ghost use Rattle.refusal.specs.Numbers.{first};
-ghost use Rattle.book.specs.Reports.{held_row, rows, report_row, report_checks, onto};
+ghost use Rattle.book.specs.Reports.{held_row, spread_row, rows, report_row, report_checks, onto};
 ghost use Rattle.filling.specs.Scatter.{held_by, born, every, origin_of, holder_of, cell_of, entered, scatter, Enterable, Fillable, Tallied, one_pass, Reportable};
 
 use book::Report;
@@ -88,6 +88,7 @@ fn enter<T: Tally>(p: Piece, tally: &T, report: &mut [u32])
 }
 
 // The pieces that count are entered.
+#[tactic(auto, using(crate::proofs::Scattered::fillable_next), unfolding(crate::specs::Scatter::scatter))]
 fn add<T: Tally>(pieces: &Pieces, tally: &T, report: &mut [u32])
     requires { Fillable (T.counted tally.now) (T.index_of tally.now) report.old pieces.now }
     ensures { report.new ≡ scatter (T.counted tally.now) (T.index_of tally.now) report.old pieces.now }
@@ -98,6 +99,7 @@ fn add<T: Tally>(pieces: &Pieces, tally: &T, report: &mut [u32])
 }
 
 // A report: its numbers become 0, and the pieces that count are entered.
+#[tactic(auto, using(crate::proofs::Scattered::all_cleared, crate::proofs::Scattered::fillable))]
 fn fill_pass<T: Tally>(pieces: &Pieces, tally: &T, report: &mut [u32])
     requires { Tallied (T.counted tally.now) (T.index_of tally.now) (length report.old) pieces.now }
     ensures { report.new ≡ one_pass (length report.old) (T.counted tally.now) (T.index_of tally.now) report.old pieces.now }
@@ -107,6 +109,7 @@ fn fill_pass<T: Tally>(pieces: &Pieces, tally: &T, report: &mut [u32])
 }
 
 // The held report of a vessel: a number for each vessel.
+#[tactic(auto, using(crate::proofs::Filling::held_tallied, crate::proofs::Filling::held_filled))]
 fn fill_held(pieces: &Pieces, vessel: u32, row: &mut [u32])
     requires { Reportable (length row.old) pieces.now }
     ensures { row.new ≡ held_row (length row.old) vessel pieces.now }
@@ -114,7 +117,17 @@ fn fill_held(pieces: &Pieces, vessel: u32, row: &mut [u32])
     fill_pass(pieces, &HeldBy { vessel }, row);
 }
 
+// The spread report of an origin's births in a span: a number for each vessel.
+#[tactic(auto, using(crate::proofs::Filling::spread_tallied, crate::proofs::Filling::spread_filled))]
+fn fill_spread(pieces: &Pieces, origin: u32, from: u32, to: u32, row: &mut [u32])
+    requires { Reportable (length row.old) pieces.now }
+    ensures { row.new ≡ spread_row (length row.old) origin from to pieces.now }
+{
+    fill_pass(pieces, &BornAt { origin, from, to }, row);
+}
+
 // The rows of all vessels, in one pass.
+#[tactic(auto, using(crate::proofs::Filling::whole_tallied, crate::proofs::Filling::whole_filled))]
 fn fill_whole(pieces: &Pieces, vessels: u32, report: &mut [u32])
     requires { (length report.old ≡ vessels * vessels) × Reportable vessels pieces.now }
     ensures { report.new ≡ rows vessels 0 vessels pieces.now }
@@ -123,6 +136,7 @@ fn fill_whole(pieces: &Pieces, vessels: u32, report: &mut [u32])
 }
 
 // The same at the start of the room, row by row: each row is lent to the held report of its vessel.
+#[tactic(auto, using(crate::proofs::Filling::rows_none, crate::proofs::Filling::rows_next))]
 pub fn fill_rows(pieces: &Pieces, vessels: u32, report: &mut [u32])
     requires { (vessels * vessels ≤ length report.old) × Reportable vessels pieces.now }
     ensures { report.new ≡ onto (rows vessels 0 vessels pieces.now) report.old }
@@ -135,6 +149,7 @@ pub fn fill_rows(pieces: &Pieces, vessels: u32, report: &mut [u32])
 }
 
 // What is asked, at the start of room that its checks found long enough.
+#[tactic(auto, using(crate::proofs::Filling::room_laws))]
 pub fn fill(pieces: &Pieces, vessels: u32, asked: Report, room: &mut [u32])
     requires { (first (report_checks vessels (length room.old) asked) ≡ 0) × Reportable vessels pieces.now }
     ensures { room.new ≡ onto (report_row vessels pieces.now asked) room.old }
@@ -143,7 +158,7 @@ pub fn fill(pieces: &Pieces, vessels: u32, asked: Report, room: &mut [u32])
     match asked {
         Report::Held(vessel) => fill_held(pieces, vessel, &mut room[..size]),
         Report::Spread(origin, from, to) => {
-            fill_pass(pieces, &BornAt { origin, from, to }, &mut room[..size])
+            fill_spread(pieces, origin, from, to, &mut room[..size])
         }
         Report::Whole => fill_whole(pieces, vessels, &mut room[..size * size]),
     }
