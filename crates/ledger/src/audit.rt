@@ -49,6 +49,7 @@ fn all_zero(rest: &[u32]) -> bool
 }
 
 // Whether the pieces draw the balances of all holders down to nothing.
+#[tactic(auto, unfolding(crate::specs::Audit::drained))]
 fn drains(pieces: &Pieces, vessels: u32, last: u32, balances: [u32; HOLDERS]) -> bool
     requires { vessels ≤ most_vessels }
     ensures { result ≡ drained vessels last balances pieces.now }
@@ -64,6 +65,7 @@ fn drains(pieces: &Pieces, vessels: u32, last: u32, balances: [u32; HOLDERS]) ->
 }
 
 // Whether the pieces fit, and the balances of the head, the scale's among them, are their sums.
+#[tactic(auto, using(crate::proofs::Drained::drawn_all))]
 fn is_balanced(head: Head, pieces: &Pieces) -> bool
     requires { head.vessels ≤ most_vessels }
     ensures { result ≡ all_of (balanced head pieces.now) }
@@ -75,7 +77,7 @@ fn is_balanced(head: Head, pieces: &Pieces) -> bool
 }
 
 // Whether the book adds up: one pass over the pieces.
-#[tactic(auto, unfolding(book::specs::Head::adds_up))]
+#[tactic(auto, unfolding(book::specs::Head::adds_up, table::specs::Table::places_of))]
 pub fn adds_up(head: Head, table: &[u32]) -> bool
     ensures { result ≡ adds_up head table.now }
 {
@@ -89,6 +91,7 @@ pub fn adds_up(head: Head, table: &[u32]) -> bool
 }
 
 // Checks 1 and 4, which every call makes first.
+#[tactic(auto, unfolding(book::specs::Memory::book_checks, book::specs::Head::balance_at))]
 pub fn check_book(head: Head, table: &[u32]) -> Result<(), Refusal>
     ensures { (outcome_number result ≡ first (book_checks head table.now)) × Sized head }
 {

@@ -5,6 +5,7 @@ ghost use Rattle.book.specs.Head.{most_holders, balance_at, with_balance, shifte
 use book::{Head, SCALE};
 
 // The balance of a holder.
+#[tactic(auto, unfolding(book::specs::Head::balance_at))]
 pub fn balance_at(head: Head, holder: u32) -> u32
     requires { holder < most_holders }
     ensures { result ≡ balance_at head holder }
@@ -17,6 +18,7 @@ pub fn balance_at(head: Head, holder: u32) -> u32
 }
 
 // The head with another balance of a holder.
+#[tactic(auto, unfolding(book::specs::Head::with_balance))]
 fn with_balance(head: Head, holder: u32, weight: u32) -> Head
     requires { holder < most_holders }
     ensures { result ≡ with_balance head holder weight }

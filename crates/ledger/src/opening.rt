@@ -52,6 +52,7 @@ pub fn check_opening(rule: u32, vessels: u32) -> Result<(), Refusal>
 }
 
 // A fresh book under the rule, with this many vessels.
+#[tactic(auto, using(book::proofs::HeadLaws::open_refused, book::proofs::HeadLaws::open_accepted))]
 pub fn open(rule: u32, vessels: u32) -> Reply
     ensures { result ≡ opening rule vessels }
 {
