@@ -41,15 +41,15 @@ alone w room e = rw (e, drop_of_length-le room {i = length room} (omega arith), 
 
 -- and what each leaves of room that it fills
 module _ (room : List ℕ) (ps : List Piece) where
-  pub held_pass : (v : ℕ) → Reportable (length room) ps → one_pass (length room) (held_by v) origin_of room ps ≡ held_row (length room) v ps
-  held_pass v k = scattered _ _ _ room ps k.origins ∙ alone _ room (length_row _ v ps)
+  pub held_filled : (v : ℕ) → Reportable (length room) ps → one_pass (length room) (held_by v) origin_of room ps ≡ held_row (length room) v ps
+  held_filled v k = scattered _ _ _ room ps k.origins ∙ alone _ room (length_row _ v ps)
 
-  pub spread_pass : (u from to : ℕ) → Reportable (length room) ps
+  pub spread_filled : (u from to : ℕ) → Reportable (length room) ps
       → one_pass (length room) (born u from to) holder_of room ps ≡ spread_row (length room) u from to ps
-  spread_pass u from to k = scattered _ _ _ room ps k.holders ∙ alone _ room (length_tab _ 0 _)
+  spread_filled u from to k = scattered _ _ _ room ps k.holders ∙ alone _ room (length_tab _ 0 _)
 
-  pub whole_pass : (size : ℕ) → length room ≡ size * size → Reportable size ps → one_pass (length room) every (cell_of size) room ps ≡ rows size 0 size ps
-  whole_pass size e k = rw e (rows_in_one_pass size room k.holders k.origins) ∙ alone _ room (length_rows size 0 size ps ∙ sym e)
+  pub whole_filled : (size : ℕ) → length room ≡ size * size → Reportable size ps → one_pass (length room) every (cell_of size) room ps ≡ rows size 0 size ps
+  whole_filled size e k = rw e (rows_in_one_pass size room k.holders k.origins) ∙ alone _ room (length_rows size 0 size ps ∙ sym e)
 
 -- Rows one behind the other.
 rows_snoc : (size v n : ℕ) (ps : List Piece) → rows size v (suc n) ps ≡ rows size v n ps ++ held_row size (v + n) ps

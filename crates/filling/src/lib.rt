@@ -109,7 +109,7 @@ fn fill_pass<T: Tally>(pieces: &Pieces, tally: &T, report: &mut [u32])
 }
 
 // The held report of a vessel: a number for each vessel.
-#[tactic(auto, using(crate::proofs::Filling::held_tallied, crate::proofs::Filling::held_pass))]
+#[tactic(auto, using(crate::proofs::Filling::held_tallied, crate::proofs::Filling::held_filled))]
 fn fill_held(pieces: &Pieces, vessel: u32, row: &mut [u32])
     requires { Reportable (length row.old) pieces.now }
     ensures { row.new ≡ held_row (length row.old) vessel pieces.now }
@@ -118,7 +118,7 @@ fn fill_held(pieces: &Pieces, vessel: u32, row: &mut [u32])
 }
 
 // The spread report of an origin's births in a span: a number for each vessel.
-#[tactic(auto, using(crate::proofs::Filling::spread_tallied, crate::proofs::Filling::spread_pass))]
+#[tactic(auto, using(crate::proofs::Filling::spread_tallied, crate::proofs::Filling::spread_filled))]
 fn fill_spread(pieces: &Pieces, origin: u32, from: u32, to: u32, row: &mut [u32])
     requires { Reportable (length row.old) pieces.now }
     ensures { row.new ≡ spread_row (length row.old) origin from to pieces.now }
@@ -127,7 +127,7 @@ fn fill_spread(pieces: &Pieces, origin: u32, from: u32, to: u32, row: &mut [u32]
 }
 
 // The rows of all vessels, in one pass.
-#[tactic(auto, using(crate::proofs::Filling::whole_tallied, crate::proofs::Filling::whole_pass))]
+#[tactic(auto, using(crate::proofs::Filling::whole_tallied, crate::proofs::Filling::whole_filled))]
 fn fill_whole(pieces: &Pieces, vessels: u32, report: &mut [u32])
     requires { (length report.old ≡ vessels * vessels) × Reportable vessels pieces.now }
     ensures { report.new ≡ rows vessels 0 vessels pieces.now }

@@ -1,7 +1,7 @@
 -- Drawing every piece's weight from its holder's balance, with nothing short and nothing left over, is that all pieces fit and the
 -- balances are their sums: each way by induction over the pieces.
 -- Assumes nothing.
-use Rattle.std.proofs.Common.{◌≡◌, refl, ap, ◌∙◌, Bool, true, ◌&&◌, List, [], ◌∷◌, ◌++◌, ℕ, ◌≤◌, ◌<◌, arith, leb, eqb, length, get_or, set, length-set, length-append, get_or-set_same, get_or-set_other, le-leb, leb-true, eq-eqb, eqb-true}
+use Rattle.std.proofs.Common.{◌≡◌, ap, ◌∙◌, Bool, true, ◌&&◌, List, [], ◌∷◌, ◌++◌, ℕ, ◌≤◌, ◌<◌, arith, leb, eqb, length, get_or, set, length-set, length-append, get_or-set_same, get_or-set_other, leb-true, eq-eqb, eqb-true}
 use Rattle.std.proofs.lemmas.Bool.Decides.{nat_tests}
 use Rattle.std.proofs.Math.Bool.{and-true}
 use lib.Seq.{set_at}
@@ -43,29 +43,34 @@ module _ (size last : ℕ) (small : size ≤ most_vessels) where
   matches_drained [] rest done m = at_zero rest (λ v h. m.each v (rw m.long at h))
   matches_drained (p ∷ ps) rest (also f x) m =
       let h : p.holder < most_holders = holder_bound size _ f.holder_in small in
-      let w : p.weight ≤ get_or rest p.holder 0 = rw (m.each p.holder h, eq-eqb p.holder p.holder refl) (omega arith) in
-      rw (sound_fit size last p f, le-leb _ _ w) (matches_drained ps (drawn rest p) x (drawn_matches rest p ps h m))
+      grind (arith, nat_tests, sound_fit size last p f, m.each p.holder h, matches_drained ps (drawn rest p) x (drawn_matches rest p ps h m))
 
   holders : {ps : List Piece} → All (SoundPiece size last) ps → Holders size ps
   holders x = all_map (λ p f. f.holder_in) x
 
   -- one pass finds what the last three clauses of `adds_up` say
-  pub drained_is : (ps : List Piece) (l : List ℕ) (w : ℕ) → length l ≡ most_vessels
-      → drained size last (l ++ (w ∷ [])) ps ≡ (every (fits size last) ps && (same l (balances_of size ps) && eqb w (held the_scale ps)))
-  drained_is ps l w long = same_test _ _ there back
-    where
-      there : drained size last (l ++ (w ∷ [])) ps ≡ true → (every (fits size last) ps && (same l (balances_of size ps) && eqb w (held the_scale ps))) ≡ true
-      there e =
-          let d = drained_matches ps (l ++ (w ∷ [])) (simp length-append (omega (arith, long))) e in
-          let k = matches_balances size l w ps (holders d.0) long d.1 in
-          rw (all_fit size last d.0, ← k.0, same_refl l, eq-eqb _ _ k.1)
+  module _ (ps : List Piece) (l : List ℕ) (w : ℕ) (long : length l ≡ most_vessels) where
+    abbrev all : List ℕ
+    all = l ++ (w ∷ [])
 
-      back : (every (fits size last) ps && (same l (balances_of size ps) && eqb w (held the_scale ps))) ≡ true → drained size last (l ++ (w ∷ [])) ps ≡ true
-      back e =
-          let u = both (every (fits size last) ps) _ e in
-          let k = both (same l (balances_of size ps)) (eqb w (held the_scale ps)) u.1 in
-          let x = all_sound size last ps u.0 in
-          matches_drained ps (l ++ (w ∷ [])) x (balances_match size l w ps (holders x) (same_eq l (balances_of size ps) k.0) (eqb-true _ _ k.1))
+    abbrev sums : Bool
+    sums = every (fits size last) ps && (same l (balances_of size ps) && eqb w (held the_scale ps))
+
+    there : drained size last all ps ≡ true → sums ≡ true
+    there e =
+        let d = drained_matches ps all (simp length-append (omega (arith, long))) e in
+        let k = matches_balances size l w ps (holders d.0) long d.1 in
+        rw (all_fit size last d.0, ← k.0, same_refl l, eq-eqb _ _ k.1)
+
+    back : sums ≡ true → drained size last all ps ≡ true
+    back e =
+        let u = both (every (fits size last) ps) _ e in
+        let k = both (same l (balances_of size ps)) (eqb w (held the_scale ps)) u.1 in
+        let x = all_sound size last ps u.0 in
+        matches_drained ps all x (balances_match size l w ps (holders x) (same_eq l (balances_of size ps) k.0) (eqb-true _ _ k.1))
+
+    drained_is : drained size last all ps ≡ sums
+    drained_is = same_test _ _ there back
 
 -- `is_balanced`: the head's balances, with the scale's put behind them, are the balances of all holders
 pub drawn_all : (h : Head) (ps : List Piece) (l : List ℕ) (b : Bool) → h.vessels ≤ most_vessels → length l ≡ most_vessels → l ≡ h.balances
