@@ -1,6 +1,7 @@
 -- What is read of the input tells its listing, and what is written is that listing.
 -- Assumes nothing.
-use Rattle.std.proofs.Common.{◌≡◌, ℕ, ◌<◌, List, ◌++◌, Bool, true, false, length, take, refl, sym, ◌∙◌, ap, subst, arith, leb, leb-true, leb-false, append-nil, length-take-le, OnOk, IfSome, Some, None, Ok, Err}
+use Rattle.std.proofs.Common.{◌≡◌, ℕ, ◌<◌, List, ◌++◌, length, take, sym, ◌∙◌, ap, subst, arith, append-nil, ⊎_elim, length-take-le, OnOk, IfSome, Some, None, Ok, Err}
+use Rattle.std.proofs.lemmas.Bool.{cases_lt}
 use Rattle.std.proofs.Math.Seq.{take-append_seam}
 use Rattle.std.specs.Io.KnownBytes.{Appends}
 use Rattle.std.specs.declared.option.Option.{Option}
@@ -13,13 +14,12 @@ use Rattle.listing.proofs.Overlong.{cut_listing}
 
 -- Room for more than the longest sheet holds all of the input, or so much of it that the rest tells nothing.
 enough : (bytes rest room t : List ℕ) (got : ℕ) → longest < length room → FilledBy (Some bytes) (Some rest) room got → sheet_listing (take got room) t ≡ sheet_listing bytes t
-enough bytes rest room t got h f = go (leb (length room) got) refl
-  where
-    go : (b : Bool) → leb (length room) got ≡ b → sheet_listing (take got room) t ≡ sheet_listing bytes t
-    go false e = ap (λ (s : List ℕ). sheet_listing s t) (sym (append-nil (take got room)) ∙ ap (λ l. take got room ++ l) (sym (f.all (leb-false _ _ e))) ∙ sym f.read)
-    go true e =
-        let full : take got bytes ≡ take got room = ap (take got) f.read ∙ ap (λ n. take n (take got room ++ rest)) (sym (length-take-le got room f.inside)) ∙ take-append_seam (take got room) rest in
-        ap (λ (s : List ℕ). sheet_listing s t) (sym full) ∙ cut_listing got bytes t (omega (arith, h, leb-true _ _ e))
+enough bytes rest room t got h f = ⊎_elim
+    (λ l. ap (λ (s : List ℕ). sheet_listing s t) (sym (append-nil (take got room)) ∙ ap (λ l. take got room ++ l) (sym (f.all l)) ∙ sym f.read))
+    (λ l.
+    let full : take got bytes ≡ take got room = ap (take got) f.read ∙ ap (λ n. take n (take got room ++ rest)) (sym (length-take-le got room f.inside)) ∙ take-append_seam (take got room) rest in
+    ap (λ (s : List ℕ). sheet_listing s t) (sym full) ∙ cut_listing got bytes t (omega arith))
+    (cases_lt got (length room))
 
 -- An input whose bytes are known was read into such room, and what was read was listed.
 pub listed : {A E : Type 0} (known left : Option (List ℕ)) (room t before text : List ℕ) (got size : ℕ) (r : Result A E) (old new : Option (List ℕ))

@@ -1,7 +1,8 @@
 -- LONGER THAN ANY SHEET: the listing of an input is that of its part up to any length beyond the longest sheet (`cut_listing`). So a program
 -- that reads no further than that lists the whole of its input.
 -- Assumes nothing.
-use Rattle.std.proofs.Common.{◌≡◌, ℕ, suc, ◌<◌, Bool, true, false, List, leb, length, take, refl, sym, ◌∙◌, ap, leb-true, leb-false}
+use Rattle.std.proofs.Common.{◌≡◌, ℕ, suc, ◌<◌, List, length, take, sym, ◌∙◌, ap, ⊎_elim}
+use Rattle.std.proofs.lemmas.Bool.{cases_lt}
 use Rattle.std.proofs.lemmas.List.{take_all}
 use Rattle.sheet.specs.Sheet.{read_number}
 use Rattle.sheet.proofs.Overlong.{longest, cut_refusal}
@@ -15,10 +16,9 @@ unfolding run_number
 refused_listing s t n e = let r : run_number s t ≡ suc n = rw e in listing_theorem s t ∙ rw r
 
 pub cut_listing : (k : ℕ) (s t : List ℕ) → longest < k → sheet_listing (take k s) t ≡ sheet_listing s t
-cut_listing k s t h = go (leb (length s) k) refl
-  where
-    go : (b : Bool) → leb (length s) k ≡ b → sheet_listing (take k s) t ≡ sheet_listing s t
-    go true e = ap (λ (l : List ℕ). sheet_listing l t) (take_all k s (leb-true _ _ e))
-    go false e =
-        let c = cut_refusal k s h (leb-false _ _ e) in
-        refused_listing (take k s) t c.0 c.1 ∙ sym (refused_listing s t c.0 c.2)
+cut_listing k s t h = ⊎_elim
+    (λ l.
+    let c = cut_refusal k s h l in
+    refused_listing (take k s) t c.0 c.1 ∙ sym (refused_listing s t c.0 c.2))
+    (λ l. ap (λ (bytes : List ℕ). sheet_listing bytes t) (take_all k s l))
+    (cases_lt k (length s))

@@ -1,7 +1,7 @@
 -- Each rule picks what document 01 says it picks. The four are instances of one law: the picked piece wins over each piece of s
 -- received later, and no piece of s received earlier wins over it.
 -- Assumes nothing.
-use Rattle.std.proofs.Common.{◌≡◌, refl, sym, ◌≢◌, Bool, true, false, cond, List, [], ◌∷◌, ℕ, ◌≤◌, ◌<◌, arith, eqb, leb-true, leb-false, ltb-true, ltb-false}
+use Rattle.std.proofs.Common.{◌≡◌, refl, sym, ◌≢◌, Bool, true, false, cond, List, [], ◌∷◌, ℕ, ◌≤◌, ◌<◌, arith, eqb, leb-true, leb-false, ltb-true, ltb-false, true≢false}
 use Rattle.std.proofs.lemmas.Grind.{common_steps}
 use borrow.Author.Tests.{eqb-false}
 use Rattle.table.specs.declared.Piece.{Piece}
@@ -33,9 +33,6 @@ module _ (better : Piece → Piece → Bool) (s : ℕ)
       go false e nothing g h = also (eqb-false _ _ e) h
       go false e (at b x a) g h = (also (λ v. absurd (eqb-false _ _ e v)) h.0, h.1)
 
-never : ◌≡◌ {A = Bool} true false → ⊥
-never e = let z : ◌≡◌ {A = ℕ} 0 1 = cc in omega arith
-
 -- Under each rule a piece that wins over another wins over all that lose to it, and so over all that the other wins over.
 over : (rule p x r : ℕ) → precedes rule p x ≡ true → precedes rule r x ≡ false → precedes rule p r ≡ true
 unfolding precedes
@@ -56,11 +53,11 @@ picks rule s ps b p a e = rw e at (picks_best rule s ps)
 module _ (s : ℕ) (ps b : List Piece) (p : Piece) (a : List Piece) where
   pub rule_0 : select (wins 0) s ps ≡ at b p a → All (λ r. r.holder ≢ s) b
   unfolding precedes
-  rule_0 e = all_map (λ r k u. never (k u)) (picks 0 s ps b p a e).0
+  rule_0 e = all_map (λ r k u. true≢false (k u)) (picks 0 s ps b p a e).0
 
   pub rule_1 : select (wins 1) s ps ≡ at b p a → All (λ r. r.holder ≢ s) a
   unfolding precedes
-  rule_1 e = all_map (λ r k u. never (sym (k u))) (picks 1 s ps b p a e).1
+  rule_1 e = all_map (λ r k u. true≢false (sym (k u))) (picks 1 s ps b p a e).1
 
   pub rule_2 : select (wins 2) s ps ≡ at b p a → All (λ r. r.holder ≡ s → p.birth < r.birth) b × All (λ r. r.holder ≡ s → p.birth ≤ r.birth) a
   unfolding precedes

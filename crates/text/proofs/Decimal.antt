@@ -1,9 +1,9 @@
 -- DECIMAL IS THE NUMBER: read as digits it gives the number back, it begins with no zero unless the number is 0, and it is what the library prints.
 -- Assumes nothing.
-use Rattle.std.proofs.Common.{ℕ, zero, suc, ◌+◌, ◌-◌, ◌*◌, ◌/◌, ◌%◌, ◌^◌, ◌<◌, ◌≤◌, arith, ◌≡◌, refl, ◌∙◌, List, [], ◌∷◌, ◌++◌, append_assoc, get_or, Bool, true, false, ltb, sym}
+use Rattle.std.proofs.Common.{ℕ, zero, suc, ◌+◌, ◌-◌, ◌*◌, ◌/◌, ◌%◌, ◌^◌, ◌<◌, ◌≤◌, arith, ◌≡◌, refl, ◌∙◌, List, [], ◌∷◌, ◌++◌, append_assoc, get_or, sym, ⊎_elim}
 use Rattle.std.specs.Fmt.{decimal as printed}
 use Rattle.std.proofs.lemmas.Fmt.{decimal_digit, decimal_step, length-decimal-le}
-use borrow.Author.Tests.{ltb-true, ltb-false}
+use Rattle.std.proofs.lemmas.Bool.{cases_lt}
 use native.Mathlib.Nat.{pow-succ'}
 use Rattle.refusal.specs.Numbers.{TOP}
 use Rattle.text.specs.Writing.{Written, Writes}
@@ -57,17 +57,13 @@ decimal_lead n some h = led 9 n (n / 10) [] some refl (λ more. digits_lead 9 (n
 -- the library's word, by the same digits
 printed_digits : (k n : ℕ) → 0 < n → n < 10 ^ k → n < 2 ^ 64 → digits k n ≡ printed n
 printed_digits zero n some h w = absurd (omega arith)
-printed_digits (suc k) n some h w = go (ltb n 10) refl (λ large. printed_digits k (n / 10) (omega arith) (tenth k n h) (omega arith))
-  where
-    go : (t : Bool) → ltb n 10 ≡ t → (10 ≤ n → digits k (n / 10) ≡ printed (n / 10)) → digits (suc k) n ≡ printed n
-    go true e i =
-        let small : n < 10 = ltb-true n 10 e in
-        let none : n / 10 ≡ 0 = omega arith in
-        let last : n % 10 ≡ n = omega arith in
-        more_digits k n some ∙ rw (none, no_digits, last) (sym (decimal_digit n small))
-    go false e i =
-        let large : 10 ≤ n = ltb-false n 10 e in
-        more_digits k n some ∙ rw (i large) (sym (decimal_step n large w))
+printed_digits (suc k) n some h w = more_digits k n some ∙ ⊎_elim
+    (λ small.
+    let none : n / 10 ≡ 0 = omega arith in
+    let last : n % 10 ≡ n = omega arith in
+    rw (none, no_digits, last) (sym (decimal_digit n small)))
+    (λ large. rw (printed_digits k (n / 10) (omega arith) (tenth k n h) (omega arith)) (sym (decimal_step n large w)))
+    (cases_lt n 10)
 
 pub decimal_printed : (n : ℕ) → n ≤ TOP → decimal n ≡ printed n
 unfolding decimal digits
