@@ -37,12 +37,12 @@ def functions():
     for path, text in SOURCES.items():
         for m in re.finditer(r'^( *)((?:pub )?(?:extern "C" )?fn \w+)', text, re.M):
             indent, start = m.group(1), m.start()
-            end = re.compile(r"^" + indent + r"(\}|.*;)$", re.M).search(text, m.end())
-            whole = text[start : end.end()]
-            brace = re.search(r"^" + indent + r"\{$", whole, re.M) or re.search(r"\{$", whole, re.M)
-            if not brace:
+            # The body begins at a brace that ends a line; a line that ends in `;` before one is a method that has none.
+            brace = re.compile(r"\{$|;$", re.M).search(text, m.end())
+            if not brace or brace.group() == ";":
                 continue
-            head, body = whole[: brace.start()], whole[brace.end() :]
+            end = re.compile(r"^" + indent + r"\}$", re.M).search(text, brace.end())
+            head, body = text[start : brace.start()], text[brace.end() : end.end()]
             name = re.search(r"fn (\w+)", head).group(1)
             params = re.search(r"\((.*?)\)(?:\s*->|\s*$|\s*\n)", head, re.S)
             params = [p.strip() for p in params.group(1).split(",") if p.strip()] if params else []

@@ -1,14 +1,14 @@
 -- Laws of the head: the tests by which a book adds up, what each says where it holds and that a sound piece and equal lists pass them; where pieces lie;
 -- and opening: what passes its checks, and its answer by its number.
 -- Assumes nothing.
-use Rattle.std.proofs.Common.{eqb, ◌≡◌, refl, ◌≢◌, Bool, true, ◌&&◌, List, [], ◌∷◌, ℕ, suc, ◌≤◌, ◌<◌, arith, length, get_or}
+use Rattle.std.proofs.Common.{eqb, ◌≡◌, refl, Bool, true, ◌&&◌, List, [], ◌∷◌, ℕ, suc, ◌≤◌, ◌<◌, arith, length, get_or}
 use Rattle.std.specs.Cmp.{both_ways}
 use Rattle.std.proofs.lemmas.Bool.{and_parts}
 use Rattle.std.proofs.lemmas.Bool.Decides.{nat_tests}
 use Rattle.std.proofs.lemmas.List.Folds.{list_all_at}
 use Rattle.table.specs.declared.Piece.{Piece}
 use Rattle.table.specs.Pieces.{held, All, done, also}
-use Rattle.table.proofs.Pieces.{all_map}
+use Rattle.table.proofs.Pieces.{all_map, all_both}
 use Rattle.taking.proofs.Sweeping.{none_held}
 use Rattle.refusal.specs.Numbers.{first}
 use Rattle.book.specs.declared.Head.{Head}
@@ -67,11 +67,9 @@ module _ (size last : ℕ) where
 
 -- pieces of which none is on the scale lie in vessels
 pub in_vessels : (size last : ℕ) (ps : List Piece) → All (SoundPiece size last) ps → held the_scale ps ≡ 0 → All (λ p. p.holder < size) ps
-in_vessels size last ps s bare = both_of s (none_held the_scale ps (all_map (λ p f. f.weighty) s) bare)
-  where
-    both_of : {ps : List Piece} → All (SoundPiece size last) ps → All (λ p. p.holder ≢ the_scale) ps → All (λ p. p.holder < size) ps
-    both_of done done = done
-    both_of (also f x) (also n y) = also (holder_vessel size _ f.holder_in n) (both_of x y)
+in_vessels size last ps s bare =
+    let off = none_held the_scale ps (all_map (λ p f. f.weighty) s) bare in
+    all_map (λ p u. holder_vessel size _ u.0.holder_in u.1) (all_both s off)
 
 -- what a rule and a number of vessels are that pass opening's checks
 pub record Openable (rule size : ℕ) : Type 0 where

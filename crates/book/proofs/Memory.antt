@@ -1,7 +1,7 @@
 -- Head and table against the book: a head and a table that hold a sound book add up, a call on them is the call on the book, and
 -- what it leaves holds the book that the call leaves.
 -- Assumes nothing.
-use Rattle.std.proofs.Common.{◌≡◌, refl, sym, ◌∙◌, Bool, true, false, List, ℕ, zero, suc, ◌≤◌, arith, ltb, eqb, length, le-ltb}
+use Rattle.std.proofs.Common.{◌≡◌, refl, sym, Bool, true, false, List, ℕ, ◌≤◌, arith, ltb, eqb, length, le-ltb}
 use Rattle.std.proofs.lemmas.Bool.Decides.{nat_tests}
 use Rattle.table.specs.Table.{places_of}
 use Rattle.table.proofs.Table.{pieces_flat}
@@ -103,14 +103,9 @@ module _ (places : ℕ) (h : Head) (t : List ℕ) (b : Book) (on : On places h t
 
   pub in_step : (c : Call) → InStep c (number places b c)
   unfolding call_on
-  in_step c = go (number places b c) refl (number_same c)
-    where
-      go : (n : ℕ) → number places b c ≡ n → number_of h t c ≡ number places b c → InStep c n
-      go zero e s =
-          let k = keeps places b c o e in
-          let z : number_of h t c ≡ 0 = s ∙ e in
-          record { number_is = rw z; even_is = rw (z, back); holds = rw (z, back) (record { head_is = refl; lies = k.lies t on.lies }); sound = k.sound }
-      go (suc n) e s = let z : number_of h t c ≡ suc n = s ∙ e in grind arith
+  in_step c =
+      let lies = λ (e : number places b c ≡ 0). (keeps places b c o e).lies t on.lies in
+      grind (arith, back, number_same c, keeps places b c o, lies)
 
 -- no call alters the rule or the number of vessels
 pub rule_kept : (h : Head) (t : List ℕ) (c : Call) → ((call_on h t c).head.rule ≡ h.rule) × ((call_on h t c).head.vessels ≡ h.vessels)

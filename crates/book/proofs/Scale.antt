@@ -3,7 +3,7 @@
 -- book, in document 02's words. `divided`: the six movements, each as a lift and a tip, leave K1 to K4's pieces, and what else lifts and tips
 -- leave, on small cases; `tip_behind`: what was on the scale ends behind all others, in the order it lay, whatever the rule.
 -- Assumes nothing.
-use Rattle.std.proofs.Common.{◌≡◌, refl, ◌∙◌, ◌≢◌, List, [], ◌∷◌, ◌++◌, map, ℕ, zero, suc, ◌+◌, ◌<◌, arith, eqb, take, replicate}
+use Rattle.std.proofs.Common.{◌≡◌, refl, ◌∙◌, ◌≢◌, List, [], ◌∷◌, ◌++◌, map, ℕ, ◌+◌, ◌<◌, arith, eqb, take, replicate}
 use Rattle.std.proofs.lemmas.Bool.Decides.{nat_tests}
 use Rattle.table.specs.Pieces.{only, held}
 use Rattle.table.specs.Table.{pieces_of, flat, places_of}
@@ -23,7 +23,7 @@ use Rattle.book.specs.Calls.{Call, post, lift, tip, ask}
 use Rattle.book.specs.Memory.{book_checks, number_of, call_on}
 use Rattle.book.specs.WeighBook.{WeighBook, weighed}
 use Rattle.book.specs.Lists.{Journal, calls_on, numbers}
-use Rattle.book.proofs.Memory.{accepted_on, refused_on, on_number, book_passed}
+use Rattle.book.proofs.Memory.{on_number, book_passed}
 use Rattle.book.proofs.Known.{adds_up_told}
 use Rattle.book.proofs.Sound.{held_after}
 use Rattle.book.proofs.InWords.{post_fit, accepted_book}
@@ -48,16 +48,8 @@ module _ (h : Head) (t : List ℕ) (e : first (book_checks h t) ≡ 0) where
 
 -- a transfer leaves the scale as it was
 pub post_scale : (h : Head) (t : List ℕ) (x : Transfer) → (call_on h t (post x)).head.scale ≡ h.scale
-post_scale h t x = go (number_of h t (post x)) refl
-  where
-    go : (n : ℕ) → number_of h t (post x) ≡ n → (call_on h t (post x)).head.scale ≡ h.scale
-    go zero e =
-        let f = post_fit h t x e in
-        let a = accepted_book h t (post x) e in
-        let v = a.vessels_fit in
-        let kept = held_after (book_of h t) h.rule (motion_of x) the_scale in
-        rw (accepted_on h t (post x) e) (grind (arith, nat_tests, kept, f, a.scale_is))
-    go (suc n) e = rw (refused_on h t (post x) (suc n) e (λ z. omega arith))
+unfolding call_on
+post_scale h t x = grind (arith, nat_tests, held_after (book_of h t) h.rule (motion_of x) the_scale, post_fit h t x, accepted_book h t (post x))
 
 -- "a tip moves all its weight there to d, sets last and leaves accepted"
 pub record TipWeighed (w : WeighBook) (y : Tip) (w' : WeighBook) : Type 0 where

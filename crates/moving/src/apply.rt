@@ -1,5 +1,5 @@
 // A plan is applied: what goes is lifted out of the table, the rest closes up, and what was lifted is put at the end.
-ghost use Rattle.std.specs.Prelude.{◌≡◌, ◌<◌, ◌≤◌, ◌*◌, length};
+ghost use Rattle.std.specs.Prelude.{◌≡◌, ◌<◌, ◌≤◌};
 ghost use Rattle.table.specs.Table.{most_places};
 ghost use Rattle.picking.specs.Plan.{count_of};
 ghost use Rattle.moving.specs.Parts.{Room, LiftsOne, Lifts, Splits, Follows, Gathers, plan_answer, Applicable, Applies};

@@ -36,6 +36,7 @@ short_name name = take (letters name) name
 abbrev pub names_in : ℕ → List ℕ → List (List ℕ)
 names_in vessels l = groups name_size (take name_size) vessels l
 
+-- Whether a name is among others.
 abbrev pub used_in : List ℕ → List (List ℕ) → Bool
 used_in name names = exists (λ n rest. same name n) names
 
