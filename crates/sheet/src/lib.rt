@@ -44,11 +44,7 @@ fn find_movement(sheet: &[u8], index: u32) -> Result<Movement, Refusal>
     ensures answer { movement_of result ≡ movement_asked sheet.now index }
     ensures accepted { IfOk result (λ m. m.number ≡ 0) }
 {
-    let known = Sheet::read(sheet)?;
-    if index >= known.header().movements {
-        return Err(Refusal::PastEnd);
-    }
-    Ok(known.movement(index))
+    Sheet::read(sheet)?.get(index).ok_or(Refusal::PastEnd)
 }
 
 // The movement at an index.

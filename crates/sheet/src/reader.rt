@@ -1,5 +1,5 @@
 // All checks of a sheet, in order; and a sheet that passed them, as a value.
-ghost use Rattle.std.specs.Prelude.{◌≡◌, ◌<◌, length, map, MatchResult};
+ghost use Rattle.std.specs.Prelude.{◌≡◌, ◌<◌, ◌≤◌, length, map, MatchOption, MatchResult};
 ghost use Rattle.refusal.specs.Numbers.{first};
 ghost use Rattle.refusal.specs.Refusals.{number_of, outcome_number};
 ghost use Rattle.fields.specs.Movements.{entry_in};
@@ -95,6 +95,17 @@ impl<'a> Sheet<'a> {
             minute: e.minute,
             weight: e.weight,
             age: e.age as u16,
+        }
+    }
+
+    // The same, if the sheet has it.
+    pub fn get(&self, index: u32) -> Option<Movement>
+        ensures { MatchOption result (movements_of self.now ≤ index) (λ m. (index < movements_of self.now) × (m ≡ movement_at self.now index)) }
+    {
+        if index < self.numbers.movements {
+            Some(self.movement(index))
+        } else {
+            None
         }
     }
 }
