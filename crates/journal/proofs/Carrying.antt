@@ -30,51 +30,38 @@ use Rattle.journal.proofs.Grouped.{groups, first_groups, count_groups, grouped_a
 pub made_report : {h : Head} {t room r' : List ℕ} {q : Report} {z : Reply} → Asks h q t room r' z → Makes h (ask q room) t room t r' z
 made_report {h = h} {t = t} {room = room} {q = q} p = record { answer = p.answer; table = sym (asked_nothing h t q room).1; room = p.room }
 
--- Where carrying out stands before call i: the numbers so far and those that are left make the whole, and so do head, table and room.
+-- what is left of a list, behind the numbers of the calls before
+abbrev behind : List ℕ → Carried → Carried
+behind ns k = record { numbers = ns ++ k.numbers; head = k.head; table = k.table; room = k.room }
+
+-- Where carrying out stands before call i: the numbers so far and the calls that are left make the whole.
 pub record Going (l : List (List ℕ)) (h₀ : Head) (t₀ a₀ r₀ : List ℕ) (h : Head) (t a r : List ℕ) (i : ℕ) : Type 0 where
-  pub numbers : take i a ++ (all_carried (drop i l) h t r).numbers ≡ (all_carried l h₀ t₀ r₀).numbers
-  pub head : (all_carried (drop i l) h t r).head ≡ (all_carried l h₀ t₀ r₀).head
-  pub table : (all_carried (drop i l) h t r).table ≡ (all_carried l h₀ t₀ r₀).table
-  pub room : (all_carried (drop i l) h t r).room ≡ (all_carried l h₀ t₀ r₀).room
-  pub behind : drop i a ≡ drop i a₀
+  pub left : behind (take i a) (all_carried (drop i l) h t r) ≡ all_carried l h₀ t₀ r₀
+  pub unwritten : drop i a ≡ drop i a₀
   pub answers_length : length a ≡ length a₀
 
 module _ {l : List (List ℕ)} {h₀ : Head} {t₀ a₀ r₀ : List ℕ} {h : Head} {t a r : List ℕ} {i : ℕ} (g : Going l h₀ t₀ a₀ r₀ h t a r i) where
-  abbrev all : Carried
-  all = all_carried l h₀ t₀ r₀
-
   pub going_next : {z : Reply} {t' r' : List ℕ} {c : Read.Call} → i < length l → length l ≤ length a₀ → call_read (get_or l i []) ≡ Ok c → Makes h (called c r) t r t' r' z
       → Going l h₀ t₀ a₀ r₀ z.head t' (set a i z.number) r' (i + 1)
   unfolding all_carried
   going_next {z = z} {t' = t'} {r' = r'} {c = c} q m ec p =
       let made : Makes h (call_in (get_or l i []) r) t r t' r' z = rw ((read_on _ c ec).1, called_is (get_or l i []) r) at p in
-      let d : drop i l ≡ get_or l i [] ∷ drop (suc i) l = drop-cons l i [] q in
       let long : i < length a = rw g.answers_length (omega arith) in
       record {
-        numbers = rw (add-one, take-suc-set a i z.number long, append_assoc, made.answer, made.table, made.room) (rw d at g.numbers);
-        head = rw (add-one, made.answer, made.table, made.room) (rw d at g.head);
-        table = rw (add-one, made.answer, made.table, made.room) (rw d at g.table);
-        room = rw (add-one, made.answer, made.table, made.room) (rw d at g.room);
-        behind = rw (add-one, drop-set-lt (suc i) a i z.number (omega arith)) (one_less g.behind);
+        left = rw (add-one, take-suc-set a i z.number long, append_assoc, made.answer, made.table, made.room) (rw (drop-cons l i [] q) at g.left);
+        unwritten = drop-set-lt (i + 1) a i z.number (omega arith) ∙ sym (drop-drop 1 i a) ∙ ap (drop 1) g.unwritten ∙ drop-drop 1 i a₀;
         answers_length = length-set a i z.number ∙ g.answers_length;
       }
-    where
-      one_less : drop i a ≡ drop i a₀ → drop (suc i) a ≡ drop (suc i) a₀
-      one_less e =
-          let j : i + 1 ≡ suc i = add-one i in
-          ap (λ (k : ℕ). drop k a) (sym j) ∙ sym (drop-drop 1 i a) ∙ ap (drop 1) e ∙ drop-drop 1 i a₀ ∙ ap (λ (k : ℕ). drop k a₀) j
 
   pub going_end : i ≡ length l → MakesAll l h₀ t₀ a₀ r₀ t a r h
   unfolding all_carried
   going_end e =
-      let d : drop i l ≡ [] = drop_of_length-le l (omega (arith, e)) in
-      let u : take i a ≡ all.numbers = sym (append-nil (take i a)) ∙ (rw d at g.numbers) in
-      let w : a ≡ all.numbers ++ drop i a₀ = sym (take-append-drop i a) ∙ rw (u, g.behind) in
+      let all : behind (take i a) (record { numbers = []; head = h; table = t; room = r }) ≡ all_carried l h₀ t₀ r₀ = rw (drop_of_length-le l {i = i} (omega (arith, e))) at g.left in
       record {
-        head = rw d at g.head;
-        table = rw d at g.table;
-        answers = w ∙ ap (λ (k : ℕ). all.numbers ++ drop k a₀) e;
-        room = rw d at g.room;
+        head = ap (λ (k : Carried). k.head) all;
+        table = ap (λ (k : Carried). k.table) all;
+        answers = rw (← all, ← e, append-nil, ← g.unwritten) (sym (take-append-drop i a));
+        room = ap (λ (k : Carried). k.room) all;
       }
 
 -- what is left is the journal of the calls

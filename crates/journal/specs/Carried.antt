@@ -94,7 +94,8 @@ calls_in (suc n) l h t room =
     let o = call_on h t c in
     c ∷ calls_in n (drop call_size l) o.head o.table (room_left c o room)
 
--- The same after all calls of a list of groups of six numbers, as the code goes over them.
+-- What is left after all calls of a list of groups of six numbers, as the code goes over them. proofs/Grouped.antt shows that of the first n
+-- groups of a list of numbers this is `carried`.
 unfoldable pub all_carried : List (List ℕ) → Head → List ℕ → List ℕ → Carried
 all_carried [] h t room = record { numbers = []; head = h; table = t; room = room }
 all_carried (six ∷ calls) h t room =

@@ -84,7 +84,7 @@ fn make(head: Head, table: &mut [u32], call: Call, room: &mut [u32]) -> Reply
     }
 }
 
-// Whether all ages of the calls are such.
+// Whether each age of the calls is a number of 16 bits.
 #[tactic(auto, using(crate::proofs::Reading::scan_turn, crate::proofs::Reading::scan_found))]
 fn check_ages(calls: &[[u32; CALL_SIZE]]) -> Result<(), Refusal>
     ensures { outcome_number result ≡ cond (list_any age_off calls.now) 18 0 }

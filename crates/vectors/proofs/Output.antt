@@ -1,6 +1,6 @@
 -- What is written: bytes behind bytes, a line of numbers, and what is shown of a list of calls.
 -- Assumes nothing.
-use Rattle.std.proofs.Common.{◌≡◌, ℕ, zero, suc, ◌+◌, ◌<◌, min, List, [], ◌∷◌, ◌++◌, length, get_or, take, drop, replicate, decimal, refl, sym, ◌∙◌, ap, ap₂, subst, append_assoc, append-nil, add-one, arith, OnOk, Ok, Err, Some, None}
+use Rattle.std.proofs.Common.{◌≡◌, ℕ, zero, suc, ◌+◌, ◌<◌, min, List, [], ◌∷◌, ◌++◌, length, get_or, take, drop, replicate, decimal, refl, sym, ◌∙◌, ap, ap₂, append_assoc, append-nil, add-one, arith, OnOk, Ok, Err, Some, None}
 use Rattle.std.proofs.lemmas.List.Edits.{sets}
 use Rattle.std.specs.Io.KnownBytes.{Appends}
 use Rattle.std.specs.declared.option.Option.{Option}
@@ -22,14 +22,11 @@ appends_both (Some os) (Some bs) (Some ns) xs ys a b = b ∙ rw a (append_assoc 
 appends_both (Some os) None new xs ys a b = absurd a
 appends_both (Some os) (Some bs) None xs ys a b = absurd b
 
-pub appends_same : {A E : Type 0} (r : Result A E) (old new : Option (List ℕ)) (xs ys : List ℕ) → xs ≡ ys → OnOk r (Appends old new xs) → OnOk r (Appends old new ys)
-appends_same r old new xs ys e a = subst (λ (k : List ℕ). OnOk r (Appends old new k)) e a
-
--- bytes that were written, and then those of a call that may fail
-pub appends_then : {A E : Type 0} (r : Result A E) (old between new : Option (List ℕ)) (xs ys : List ℕ) → Appends old between xs → OnOk r (Appends between new ys)
-    → OnOk r (Appends old new (xs ++ ys))
-appends_then (Ok x) old between new xs ys a b = appends_both old between new xs ys a b
-appends_then (Err e) old between new xs ys a b = tt
+-- bytes that were written, and then those of a call that may fail, are what is shown
+pub appends_then : {A E : Type 0} (r : Result A E) (old between new : Option (List ℕ)) (xs ys zs : List ℕ) → xs ++ ys ≡ zs → Appends old between xs → OnOk r (Appends between new ys)
+    → OnOk r (Appends old new zs)
+appends_then (Ok x) old between new xs ys zs e a b = rw (← e) (appends_both old between new xs ys a b)
+appends_then (Err x) old between new xs ys zs e a b = tt
 
 -- a line of numbers, one number more
 more : (ns : List ℕ) (i : ℕ) → i < length ns → numbers_text (take (suc i) ns) ≡ numbers_text (take i ns) ++ (decimal (get_or ns i 0) ++ (space ∷ []))
