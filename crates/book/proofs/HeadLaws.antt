@@ -1,9 +1,7 @@
 -- Laws of the head: the tests by which a book adds up, what each says where it holds and that a sound piece and equal lists pass them; where pieces lie;
 -- and opening: what passes its checks, and its answer by its number.
 -- Assumes nothing.
-use Rattle.std.proofs.Common.{eqb, ◌≡◌, refl, Bool, true, ◌&&◌, List, [], ◌∷◌, ℕ, suc, ◌≤◌, ◌<◌, arith, length, get_or}
-use Rattle.std.specs.Cmp.{both_ways}
-use Rattle.std.proofs.lemmas.Bool.{and_parts}
+use Rattle.std.proofs.Common.{eqb, ◌≡◌, refl, true, List, [], ◌∷◌, ℕ, suc, ◌≤◌, ◌<◌, arith, length, get_or}
 use Rattle.std.proofs.lemmas.Bool.Decides.{nat_tests}
 use Rattle.std.proofs.lemmas.List.Folds.{list_all_at}
 use Rattle.table.specs.declared.Piece.{Piece}
@@ -16,13 +14,6 @@ use Rattle.book.specs.declared.Reply.{Reply}
 use Rattle.book.specs.Head.{last_rule, most_vessels, the_scale, fits, every, same, all_zero, empty_head, not_opened, open_checks, opening}
 use Rattle.book.proofs.HolderLaws.{holder_vessel}
 use Rattle.book.proofs.Sound.{SoundPiece}
-
-pub both : (a b : Bool) → (a && b) ≡ true → (a ≡ true) × (b ≡ true)
-both = and_parts
-
--- two tests that imply each other are the same
-pub same_test : (a b : Bool) → (a ≡ true → b ≡ true) → (b ≡ true → a ≡ true) → a ≡ b
-same_test = both_ways
 
 -- equal lists
 pub same_refl : (l : List ℕ) → same l l ≡ true

@@ -2,8 +2,9 @@
 -- Assumes nothing.
 use Rattle.std.proofs.Common.{ℕ, zero, suc, ◌+◌, ◌<◌, ◌≤◌, Bool, false, ◌≡◌, refl, sym, ◌∙◌, List, [], ◌∷◌, ◌++◌, length, get_or, drop, drop_of_length-le, map, leb-false, ltb-false, le-ltb, T, leb, ltb, arith}
 use Rattle.std.proofs.lemmas.List.{drop_more}
+use Rattle.std.proofs.lemmas.Bool.{or_parts}
 use Rattle.refusal.specs.Numbers.{Check, ◌if◌, first, if_zero}
-use Rattle.refusal.proofs.Numbers.{named, passed, first_append, not_zero, passed_first, passed_second, neither, named_append, refuses_less, alike_behind}
+use Rattle.refusal.proofs.Numbers.{named, passed, first_append, not_zero, passed_first, passed_second, named_append, refuses_less, alike_behind}
 use Rattle.book.specs.Transfer.{most_age}
 use Rattle.fields.specs.declared.entries.Entry.{Entry}
 use Rattle.fields.specs.Movements.{no_entry, entry_checks, given_checks, entries_checks}
@@ -66,7 +67,7 @@ pub record Sound (vessels : ℕ) (e : Entry) : Type 0 where
 sound : (vessels : ℕ) (e : Entry) → first (given_checks vessels e) ≡ 0 → Sound vessels e
 sound vessels e z =
     let p = passed (given_checks vessels e) tt z in
-    let v = neither (leb vessels e.source) (leb vessels e.destination) p.1.0 in
+    let v = or_parts (leb vessels e.source) (leb vessels e.destination) p.1.0 in
     record {
       age = ltb-false most_age e.age p.0;
       source = leb-false vessels e.source v.0;

@@ -2,12 +2,12 @@
 -- Assumes nothing.
 use Rattle.std.proofs.Common.{◌≡◌, refl, sym, ap, ◌∙◌, Bool, true, false, List, [], ◌∷◌, ◌++◌, append_assoc, append-nil, ℕ, zero, suc, ◌+◌, ◌*◌, ◌≤◌, zero-mul, suc-mul, add-zero, add-one, arith, eqb, length, length-take, take, drop, drop_of_length-le, take_at, drop_at, drop-drop}
 use Rattle.std.proofs.lemmas.List.{length-take-le}
+use Rattle.std.proofs.lemmas.Bool.{and_parts}
 use Rattle.table.specs.declared.Piece.{Piece}
 use Rattle.table.specs.Pieces.{Kind, in_vessel, sum}
 use Rattle.table.proofs.Pieces.{all_map, all_both}
 use Rattle.refusal.specs.Numbers.{TOP}
 use Rattle.book.specs.Reports.{from_origin, held_row, born_within, spread_row, rows, onto}
-use Rattle.book.proofs.HeadLaws.{both}
 use Rattle.book.proofs.BalanceLaws.{length_tab}
 use Rattle.book.proofs.ReportLaws.{length_row, length_rows, held_room, spread_room, whole_room}
 use Rattle.filling.specs.Scatter.{held_by, born, every, origin_of, holder_of, cell_of, Tallied, one_pass, Reportable}
@@ -21,10 +21,10 @@ narrower j k f (p ∷ ps) = grind (arith, f p.holder p.origin p.birth, narrower 
 
 module _ (size : ℕ) (ps : List Piece) (k : Reportable size ps) where
   by_origin_light : (v u : ℕ) → sum (from_origin v u) ps ≤ TOP
-  by_origin_light v u = omega (arith, k.light v, narrower (from_origin v u) (in_vessel v) (λ h o b e. (both (eqb o u) _ e).1) ps)
+  by_origin_light v u = omega (arith, k.light v, narrower (from_origin v u) (in_vessel v) (λ h o b e. (and_parts (eqb o u) _ e).1) ps)
 
   by_holder_light : (u from to v : ℕ) → sum (born_within u from to v) ps ≤ TOP
-  by_holder_light u from to v = omega (arith, k.light v, narrower (born_within u from to v) (in_vessel v) (λ h o b e. (both (eqb h v) _ e).0) ps)
+  by_holder_light u from to v = omega (arith, k.light v, narrower (born_within u from to v) (in_vessel v) (λ h o b e. (and_parts (eqb h v) _ e).0) ps)
 
   pub held_tallied : (v : ℕ) → Tallied (held_by v) origin_of size ps
   held_tallied v = all_map (λ p h. (h, by_origin_light v p.origin)) k.origins

@@ -6,10 +6,10 @@ use Rattle.std.proofs.lemmas.List.Folds.{list_any_more, list_any_at}
 use Rattle.std.specs.List.{list_any}
 use Rattle.std.specs.Prelude.{Result, Ok, Err}
 use Rattle.std.specs.Result.{result_unwrap_or, IsOk}
+use Rattle.std.proofs.lemmas.Bool.{or_parts}
 use Rattle.refusal.specs.declared.Refusal.{Refusal}
 use Rattle.refusal.specs.declared.Refusal.TheVariants.{AgeOver}
 use Rattle.refusal.specs.Refusals.{number_of, outcome_number}
-use Rattle.refusal.proofs.Numbers.{neither}
 use Rattle.refusal.proofs.Refusals.{some_number}
 use Rattle.book.specs.Calls.{post, lift, tip, ask}
 use Rattle.journal.specs.declared.Call.{Call}
@@ -59,5 +59,5 @@ scan_found calls i h why e = let q = read_off _ why e in rw (list_any_at age_off
 pub reads_well : (calls : List (List ℕ)) → list_any age_off calls ≡ false → (i : ℕ) → i < length calls → IsOk (call_read (get_or calls i []))
 unfolding call_read
 reads_well [] h i q = absurd (omega arith)
-reads_well (six ∷ calls) h zero q = rw (neither (age_off six) _ h).0 refl
-reads_well (six ∷ calls) h (suc i) q = reads_well calls (neither (age_off six) _ h).1 i (omega arith)
+reads_well (six ∷ calls) h zero q = rw (or_parts (age_off six) _ h).0 refl
+reads_well (six ∷ calls) h (suc i) q = reads_well calls (or_parts (age_off six) _ h).1 i (omega arith)

@@ -4,6 +4,8 @@
 use Rattle.std.proofs.Common.{◌≡◌, ap, ◌∙◌, Bool, true, ◌&&◌, List, [], ◌∷◌, ◌++◌, ℕ, ◌≤◌, ◌<◌, arith, leb, eqb, length, get_or, set, length-set, length-append, get_or-set_same, get_or-set_other, leb-true, eq-eqb, eqb-true}
 use Rattle.std.proofs.lemmas.Bool.Decides.{nat_tests}
 use Rattle.std.proofs.Math.Bool.{and-true}
+use Rattle.std.proofs.lemmas.Bool.{and_parts}
+use Rattle.std.specs.Cmp.{both_ways}
 use lib.Seq.{set_at}
 use Rattle.table.specs.declared.Piece.{Piece}
 use Rattle.table.specs.Pieces.{held, All, done, also}
@@ -13,7 +15,7 @@ use Rattle.book.specs.Head.{most_vessels, the_scale, most_holders, balances_of, 
 use Rattle.ledger.specs.Audit.{covers, drawn, drained}
 use Rattle.book.proofs.HolderLaws.{holder_bound}
 use Rattle.book.proofs.Sound.{SoundPiece}
-use Rattle.book.proofs.HeadLaws.{both, zero_at, at_zero, same_test, sound_fit, all_fit, fit_sound, all_sound, same_refl, same_eq}
+use Rattle.book.proofs.HeadLaws.{zero_at, at_zero, sound_fit, all_fit, fit_sound, all_sound, same_refl, same_eq}
 use Rattle.book.proofs.BalanceLaws.{Holders, Matches, matches_balances, balances_match}
 
 -- what is left of the balances after p, at v
@@ -32,8 +34,8 @@ module _ (size last : ℕ) (small : size ≤ most_vessels) where
   unfolding drained
   drained_matches [] rest long e = (done, record { long = long; each = λ v h. zero_at rest e v (rw long h) })
   drained_matches (p ∷ ps) rest long e =
-      let u = both (covers size last rest p) (drained size last (drawn rest p) ps) e in
-      let k = both (fits size last p) (leb p.weight (get_or rest p.holder 0)) u.0 in
+      let u = and_parts (covers size last rest p) (drained size last (drawn rest p) ps) e in
+      let k = and_parts (fits size last p) (leb p.weight (get_or rest p.holder 0)) u.0 in
       let f = fit_sound size last p k.0 in
       let i = drained_matches ps (drawn rest p) (length-set rest p.holder _ ∙ long) u.1 in
       (also f i.0, left_matches rest p ps (holder_bound size _ f.holder_in small) (leb-true _ _ k.1) long i.1)
@@ -64,13 +66,13 @@ module _ (size last : ℕ) (small : size ≤ most_vessels) where
 
     back : sums ≡ true → drained size last all ps ≡ true
     back e =
-        let u = both (every (fits size last) ps) _ e in
-        let k = both (same l (balances_of size ps)) (eqb w (held the_scale ps)) u.1 in
+        let u = and_parts (every (fits size last) ps) _ e in
+        let k = and_parts (same l (balances_of size ps)) (eqb w (held the_scale ps)) u.1 in
         let x = all_sound size last ps u.0 in
         matches_drained ps all x (balances_match size l w ps (holders x) (same_eq l (balances_of size ps) k.0) (eqb-true _ _ k.1))
 
     drained_is : drained size last all ps ≡ sums
-    drained_is = same_test _ _ there back
+    drained_is = both_ways _ _ there back
 
 -- `is_balanced`: the head's balances, with the scale's put behind them, are the balances of all holders
 pub drawn_all : (h : Head) (ps : List Piece) (l : List ℕ) (b : Bool) → h.vessels ≤ most_vessels → length l ≡ most_vessels → l ≡ h.balances

@@ -1,14 +1,9 @@
 -- Laws of a list of checks: what it tells that none applies, two lists one after the other, a number that no check of a list has, a check that
 -- refuses less; and of what a test or a number tells by itself.
 -- Assumes nothing.
-use Rattle.std.proofs.Common.{◌≡◌, refl, Bool, true, false, not, ◌&&◌, ◌||◌, List, [], ◌∷◌, ◌++◌, ℕ, zero, suc, arith, T, eqb}
-use Rattle.std.proofs.lemmas.Bool.{or_parts}
+use Rattle.std.proofs.Common.{◌≡◌, refl, Bool, true, false, not, ◌&&◌, List, [], ◌∷◌, ◌++◌, ℕ, zero, suc, arith, T, eqb}
 use Rattle.std.proofs.lemmas.Bool.Decides.{nat_tests}
 use Rattle.refusal.specs.Numbers.{Check, ◌if◌, first, if_zero}
-
--- both tests are false where neither is true
-pub neither : (a b : Bool) → (a || b) ≡ false → (a ≡ false) × (b ≡ false)
-neither = or_parts
 
 -- two numbers are the same where the test of that does not fail
 pub same_if : (a b : ℕ) → not (eqb a b) ≡ false → a ≡ b

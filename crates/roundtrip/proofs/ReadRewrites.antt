@@ -2,10 +2,11 @@
 -- and the names are copied. From the end to the front, each part and what lies behind it is the rest of the sheet. Assumes nothing.
 use mathlib.Core.List.{flat_map}
 use Rattle.std.proofs.Common.{ℕ, ◌*◌, ◌%◌, ◌<◌, ◌≤◌, arith, ◌≡◌, refl, sym, ap, ◌∙◌, false, not, List, [], ◌∷◌, ◌++◌, append_assoc, le-ltb, eq-eqb, ltb, length, get_or, take, drop, take-append-drop, length-take, length-drop, drop-drop}
+use Rattle.std.proofs.lemmas.Bool.{or_parts}
 use borrow.Author.Tests.{not-false}
 use lib.Seq.{take-append-le}
 use Rattle.refusal.specs.Numbers.{first}
-use Rattle.refusal.proofs.Numbers.{neither, passes}
+use Rattle.refusal.proofs.Numbers.{passes}
 use Rattle.fields.specs.declared.entries.Entry.{Entry}
 use Rattle.book.specs.Head.{same}
 use Rattle.book.specs.Transfer.{most_age}
@@ -34,7 +35,7 @@ length_numbers (e ∷ es) = let ih = length_numbers es in omega arith
 back_mark : (s : List ℕ) → no_sheet s ≡ false → mark ++ drop mark_size s ≡ s
 unfolding no_sheet
 back_mark s e =
-    let p = neither (ltb (length s) header_size) (not (same (take mark_size s) mark)) e in
+    let p = or_parts (ltb (length s) header_size) (not (same (take mark_size s) mark)) e in
     let m : take mark_size s ≡ mark = same_eq (take mark_size s) mark (not-false (same (take mark_size s) mark) p.1) in
     ap (λ (l : List ℕ). l ++ drop mark_size s) (sym m) ∙ take-append-drop mark_size s
 

@@ -3,8 +3,9 @@
 -- The two lists of checks are the same but for 15, which refuses less now, and for the 18 of each movement, which is gone.
 -- Assumes nothing.
 use Rattle.std.proofs.Common.{ℕ, zero, suc, ◌≤◌, ◌<◌, arith, ◌≡◌, refl, sym, ap, ◌∙◌, Bool, not, false, List, [], ◌∷◌, ◌++◌, T, eqb, ltb, length, get_or, drop, ltb-false, le-ltb}
+use Rattle.std.proofs.lemmas.Bool.{or_parts}
 use Rattle.refusal.specs.Numbers.{Check, ◌if◌, first}
-use Rattle.refusal.proofs.Numbers.{neither, without, never, past, same_if, passed_second, refuses_less, alike_behind}
+use Rattle.refusal.proofs.Numbers.{without, never, past, same_if, passed_second, refuses_less, alike_behind}
 use Rattle.book.specs.Head.{open_checks}
 use Rattle.fields.specs.declared.entries.Entry.{Entry}
 use Rattle.fields.specs.Layout.{most_movements, entries_start, movements_off}
@@ -55,7 +56,7 @@ module _ (s : List ℕ) where
   less_off : was ≡ false → is ≡ false
   less_off e =
       let m = movements_of s in
-      movements_fit m (ltb-false most_movements m (neither (ltb m 1) (ltb most_movements m) e).1)
+      movements_fit m (ltb-false most_movements m (or_parts (ltb m 1) (ltb most_movements m) e).1)
 
   same_off : 1 ≤ movements_of s → was ≡ is
   unfolding movements_off

@@ -1,8 +1,9 @@
 -- Laws of the header: what each check tells once it is passed, and the number at each way out. Assumes nothing.
 use Rattle.std.proofs.Common.{ℕ, ◌≤◌, arith, ◌≡◌, refl, sym, ap, ◌∙◌, Bool, false, not, List, [], ◌∷◌, ◌++◌, ltb-false, eq-eqb, le-ltb, eqb, ltb, length, take, drop}
 use Rattle.std.specs.Cmp.Lexicographic.{pointwise}
+use Rattle.std.proofs.lemmas.Bool.{or_parts}
 use Rattle.refusal.specs.Numbers.{◌if◌, first}
-use Rattle.refusal.proofs.Numbers.{neither, passes}
+use Rattle.refusal.proofs.Numbers.{passes}
 use Rattle.book.proofs.HeadLaws.{openable}
 use Rattle.book.specs.Head.{same, most_vessels, open_checks}
 use Rattle.fields.specs.Bytes.{value_in}
@@ -19,7 +20,7 @@ unmarked s letters r h e q =
 pub sheet_holds : (s : List ℕ) (k : ℕ) (r : Bool) → r ≡ no_sheet s → r ≡ false → k ≤ header_size → k ≤ length s
 unfolding no_sheet
 sheet_holds s k r e q h =
-    omega (arith, ltb-false (length s) header_size (neither (ltb (length s) header_size) (not (same (take mark_size s) mark)) (sym e ∙ q)).0)
+    omega (arith, ltb-false (length s) header_size (or_parts (ltb (length s) header_size) (not (same (take mark_size s) mark)) (sym e ∙ q)).0)
 
 pub few_vessels : (rule vessels n : ℕ) → n ≡ first (open_checks rule vessels) → n ≡ 0 → vessels ≤ most_vessels
 few_vessels rule vessels n e z = (openable rule vessels (sym e ∙ z)).few_vessels

@@ -6,7 +6,7 @@ use Rattle.refusal.specs.declared.Refusal.{Refusal}
 use Rattle.refusal.specs.Refusals.{number_of}
 use Rattle.std.proofs.Common.{ℕ, ◌-◌, ◌*◌, ◌/◌, ◌≤◌, arith, ◌≡◌, refl, sym, ap, ◌∙◌, Bool, true, false, not, List, [], ◌∷◌, ◌++◌, eqb, map, length, take, drop, length-take, length-drop}
 use Rattle.refusal.specs.Numbers.{Check, ◌if◌, first}
-use Rattle.refusal.proofs.Numbers.{passed, neither, same_if, past, refuses, passes, passed_first, passed_second}
+use Rattle.refusal.proofs.Numbers.{passed, same_if, past, refuses, passes, passed_first, passed_second}
 use Rattle.fields.specs.Bytes.{value_in}
 use Rattle.names.specs.Names.{names_in, names_off}
 use Rattle.fields.specs.declared.entries.Entry.{Entry}
@@ -19,6 +19,7 @@ use Rattle.names.proofs.NameLaws.{names_cut, names_taken}
 use Rattle.fields.proofs.ChunkLaws.{entries_cut}
 use Rattle.fields.proofs.LayoutLaws.{few_movements}
 use Rattle.std.proofs.lemmas.List.{take_rest}
+use Rattle.std.proofs.lemmas.Bool.{or_parts}
 use Rattle.book.proofs.HeadLaws.{Openable, openable}
 
 -- What a header lays down that passes its checks.
@@ -42,9 +43,9 @@ laid s n e z =
     let p = past 13 (no_sheet s) (open_checks (rule_of s) (vessels_of s) ++ last_checks s) (sym e ∙ z) in
     let opens = passed_first (open_checks (rule_of s) (vessels_of s)) (last_checks s) tt p.1 in
     let q = passed (last_checks s) tt (passed_second (open_checks (rule_of s) (vessels_of s)) (last_checks s) tt p.1) in
-    let a = neither (not (eqb (value_in 4 (drop names_at s)) header_size)) _ q.1.0 in
-    let b = neither (not (eqb (value_in 4 (drop entries_at s)) (entries_start (vessels_of s)))) _ a.1 in
-    let c = neither (not (eqb (value_in 4 (drop length_at s)) (sheet_size (vessels_of s) (movements_of s)))) _ b.1 in
+    let a = or_parts (not (eqb (value_in 4 (drop names_at s)) header_size)) _ q.1.0 in
+    let b = or_parts (not (eqb (value_in 4 (drop entries_at s)) (entries_start (vessels_of s)))) _ a.1 in
+    let c = or_parts (not (eqb (value_in 4 (drop length_at s)) (sheet_size (vessels_of s) (movements_of s)))) _ b.1 in
     record {
       marked = p.0;
       opens = opens;

@@ -3,7 +3,7 @@ use mathlib.Core.List.{flat_map}
 use Rattle.std.proofs.Common.{ℕ, ◌+◌, ◌*◌, ◌/◌, ◌%◌, ◌<◌, ◌≤◌, zero-add, arith, ◌≡◌, refl, sym, ap, ◌∙◌, Bool, true, false, not, List, [], ◌∷◌, ◌++◌, ltb-false, lt-ltb, le-ltb, T, eqb, map, length, take, drop, length-append, take_at}
 use lib.Seq.{sets, sets-eq}
 use Rattle.refusal.specs.Numbers.{Check, ◌if◌, first}
-use Rattle.refusal.proofs.Numbers.{named, passed, neither, same_if, past, refuses, passes, passed_first, passed_second}
+use Rattle.refusal.proofs.Numbers.{named, passed, same_if, past, refuses, passes, passed_first, passed_second}
 use Rattle.fields.specs.declared.entries.Entry.{Entry}
 use Rattle.fields.specs.Layout.{name_size, most_movements, sheet_size, movements_off, Within}
 use Rattle.names.specs.Names.{names_in, names_off}
@@ -11,6 +11,7 @@ use Rattle.fields.specs.Movements.{given_size, entry_size, given_in, entries_giv
 use Rattle.book.specs.Head.{open_checks}
 use Rattle.writing.specs.Writing.{count_given, given_off, count_checks, content_checks, room_check, write_number, sheet_of, written}
 use Rattle.std.specs.Simd.{first_chunks}
+use Rattle.std.proofs.lemmas.Bool.{or_parts}
 use Rattle.names.proofs.NameLaws.{names_cut}
 use Rattle.book.proofs.HeadLaws.{Openable, openable}
 use Rattle.fields.proofs.LayoutLaws.{few_movements}
@@ -36,7 +37,7 @@ counted rule vessels n names numbers e z =
     let last = (16 if given_off vessels names numbers) ∷ (15 if movements_off (count_given numbers)) ∷ [] in
     let opens = passed_first (open_checks rule vessels) last tt (sym e ∙ z) in
     let p = passed last tt (passed_second (open_checks rule vessels) last tt (sym e ∙ z)) in
-    let g = neither (not (eqb (length names) (name_size * vessels))) (not (eqb (length numbers % given_size) 0)) p.0 in
+    let g = or_parts (not (eqb (length names) (name_size * vessels))) (not (eqb (length numbers % given_size) 0)) p.0 in
     record {
       opens = opens;
       inside = p.1.0;
