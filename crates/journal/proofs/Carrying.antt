@@ -1,7 +1,8 @@
 -- Calls carried out in turn from numbers: which call the numbers are, the loop by what is left, and that what is left is the journal of
 -- the calls, so that demand 3 holds of it.
 -- Assumes nothing.
-use Rattle.std.proofs.Common.{◌≡◌, refl, sym, ap, ◌∙◌, Bool, true, false, cond, List, [], ◌∷◌, ◌++◌, append_assoc, append-nil, ℕ, zero, suc, ◌+◌, ◌/◌, min, ◌≤◌, ◌<◌, add-one, arith, length, get_or, set, take, drop, length-set, take-append-drop, drop-drop, drop-cons, drop_of_length-le, take-suc-set, drop-set-lt}
+use Rattle.std.proofs.Common.{◌≡◌, refl, sym, ap, ◌∙◌, Bool, false, cond, List, [], ◌∷◌, ◌++◌, append_assoc, append-nil, ℕ, zero, suc, ◌+◌, ◌/◌, min, ◌≤◌, ◌<◌, add-one, arith, length, get_or, set, take, drop, length-set, take-append-drop, drop-drop, drop-cons, drop_of_length-le, take-suc-set, drop-set-lt}
+use Rattle.std.proofs.lemmas.Grind.{common_steps}
 use Rattle.std.specs.List.{list_any}
 use Rattle.refusal.specs.Numbers.{◌if◌, first}
 use Rattle.refusal.specs.declared.Refusal.{Refusal}
@@ -79,11 +80,7 @@ module _ (rule size : ℕ) (b : Bool) where
   list_unopened n e nz = refuses (open_checks rule size) (18 if b ∷ []) tt n e nz
 
   pub list_opened : 0 ≡ first (open_checks rule size) → (n : ℕ) → n ≡ cond b 18 0 → n ≡ first (open_checks rule size ++ (18 if b) ∷ [])
-  list_opened e n en = passes (open_checks rule size) (18 if b ∷ []) tt 0 n e refl (en ∙ go b)
-    where
-      go : (b : Bool) → cond b 18 0 ≡ first (18 if b ∷ [])
-      go true = refl
-      go false = refl
+  list_opened e n en = passes (open_checks rule size) (18 if b ∷ []) tt 0 n e refl (en ∙ grind (arith, common_steps))
 
 -- `carry_out`, at its returns: the calls that it makes are the first of the groups, as many as it has answers for
 module _ (rule size : ℕ) (l a : List ℕ) (gs : List (List ℕ)) (n : ℕ) (ea : gs ≡ groups (length l / call_size) l) (en : n ≡ min (length gs) (length a)) where
@@ -113,11 +110,9 @@ module _ (rule size : ℕ) (l a : List ℕ) (gs : List (List ℕ)) (n : ℕ) (ea
     opens_well = passed_first (open_checks rule size) (18 if list_any age_off calls ∷ []) tt (sym e)
 
     pub carry_ready : (length calls ≤ length a) × (list_any age_off calls ≡ false)
-    carry_ready = (omega (arith, ap length the_calls ∙ count_groups n l, en), go (list_any age_off calls) (passed_second (open_checks rule size) (18 if list_any age_off calls ∷ []) tt (sym e)))
-      where
-        go : (b : Bool) → first (18 if b ∷ []) ≡ 0 → b ≡ false
-        go true e = absurd (omega (arith, e))
-        go false e = refl
+    carry_ready =
+        let none : first (18 if list_any age_off calls ∷ []) ≡ 0 = passed_second (open_checks rule size) (18 if list_any age_off calls ∷ []) tt (sym e) in
+        (omega (arith, ap length the_calls ∙ count_groups n l, en), grind (arith, common_steps))
 
     pub carry_done : {t r t' a' r' : List ℕ} {h h' : Head} → h ≡ empty_head rule size → MakesAll calls h t a r t' a' r' h'
         → CarriesOut rule size l t a r (record { number = 0; head = h' }) t' a' r'

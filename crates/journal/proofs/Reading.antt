@@ -1,9 +1,11 @@
 -- Calls read from six numbers: what was read is the call in the numbers where its age is none that is off, and the scan for such ages by the
 -- calls that it has passed.
 -- Assumes nothing.
-use Rattle.std.proofs.Common.{◌≡◌, refl, sym, ap, ◌∙◌, Bool, true, false, cond, eqb, List, [], ◌∷◌, ℕ, zero, suc, ◌+◌, ◌<◌, arith, length, get_or, take}
+use Rattle.std.proofs.Common.{◌≡◌, refl, ◌∙◌, true, false, cond, List, [], ◌∷◌, ℕ, zero, suc, ◌+◌, ◌<◌, arith, length, get_or, take}
+use Rattle.std.proofs.lemmas.Grind.{common_steps}
 use Rattle.std.proofs.lemmas.List.Folds.{list_any_more, list_any_at}
 use Rattle.std.specs.List.{list_any}
+<<<<<<< HEAD
 use Rattle.std.specs.Prelude.{Result, Ok, Err}
 use Rattle.std.specs.Result.{result_unwrap_or, IsOk}
 use Rattle.std.proofs.lemmas.Bool.{or_parts}
@@ -12,39 +14,30 @@ use Rattle.refusal.specs.declared.Refusal.TheVariants.{AgeOver}
 use Rattle.refusal.specs.Refusals.{number_of, outcome_number}
 use Rattle.refusal.proofs.Refusals.{some_number}
 use Rattle.book.specs.Calls.{post, lift, tip, ask}
+=======
+use Rattle.std.specs.Prelude.{Ok, Err}
+use Rattle.std.specs.Result.{IsOk}
+use Rattle.refusal.specs.declared.Refusal.{Refusal}
+use Rattle.refusal.specs.Refusals.{number_of}
+use Rattle.refusal.proofs.Numbers.{neither}
+>>>>>>> 4ffba7fbfbf83e74f487327e601dbe3f132380a9
 use Rattle.journal.specs.declared.Call.{Call}
-use Rattle.journal.specs.declared.Call.TheVariants.{Transfer, Lift, Tip, Report}
 use Rattle.journal.specs.Reading.{listed, call_read, called}
-use Rattle.journal.specs.Carried.{transfer_in, lift_in, tip_in, report_in, call_in, age_off}
+use Rattle.journal.specs.Carried.{call_in, age_off}
 
 -- what was read, where an age is off and where none is
 pub read_off : (l : List ℕ) (why : Refusal) → call_read l ≡ Err why → (age_off l ≡ true) × (number_of why ≡ 18)
 unfolding call_read
-read_off l why e = go (age_off l) refl e
-  where
-    go : (b : Bool) → age_off l ≡ b → cond b (Err AgeOver) (Ok (listed l)) ≡ Err why → (age_off l ≡ true) × (number_of why ≡ 18)
-    go true q e = (q, ap (λ (r : Result Call Refusal). outcome_number r) (sym e))
-    go false q e = absurd (some_number why (ap (λ (r : Result Call Refusal). outcome_number r) (sym e)))
+read_off l why e = grind (arith, common_steps)
 
 pub read_on : (l : List ℕ) (c : Call) → call_read l ≡ Ok c → (age_off l ≡ false) × (c ≡ listed l)
 unfolding call_read
-read_on l c e = go (age_off l) refl e
-  where
-    go : (b : Bool) → age_off l ≡ b → cond b (Err AgeOver) (Ok (listed l)) ≡ Ok c → (age_off l ≡ false) × (c ≡ listed l)
-    go true q e = absurd (omega (arith, ap (λ (r : Result Call Refusal). outcome_number r) e))
-    go false q e = (q, ap (λ (r : Result Call Refusal). result_unwrap_or r c) (sym e))
+read_on l c e = grind (arith, common_steps)
 
 -- the call that was read is the call in the numbers
 pub called_is : (l room : List ℕ) → called (listed l) room ≡ call_in l room
 unfolding call_in
-called_is l room = go (eqb (get_or l 0 0) 0) (eqb (get_or l 0 0) 4) (eqb (get_or l 0 0) 5)
-  where
-    go : (a b c : Bool) → called (cond a (Transfer (transfer_in l)) (cond b (Lift (lift_in l)) (cond c (Tip (tip_in l)) (Report (report_in l))))) room
-        ≡ cond a (post (transfer_in l)) (cond b (lift (lift_in l)) (cond c (tip (tip_in l)) (ask (report_in l) room)))
-    go true b c = refl
-    go false true c = refl
-    go false false true = refl
-    go false false false = refl
+called_is l room = grind (arith, common_steps)
 
 -- the groups before a call have no age that is off, and no more have those up to it
 pub scan_turn : (calls : List (List ℕ)) (i : ℕ) → i < length calls → list_any age_off (take i calls) ≡ false → (c : Call) → call_read (get_or calls i []) ≡ Ok c

@@ -1,7 +1,8 @@
 -- A transfer in document 01's own words, where each picked piece joins the end at once, leaves the same pieces and says the same
 -- as taking first and handing over later. What was moved already lies behind, held by d, and is never picked again.
 -- Assumes nothing.
-use Rattle.std.proofs.Common.{◌≡◌, refl, ap, ◌≢◌, Bool, true, false, cond, List, [], ◌∷◌, ◌++◌, map, append_assoc, append-nil, ℕ, zero, suc, ◌-◌, leb, eqb, length, ne_eqb}
+use Rattle.std.proofs.Common.{◌≡◌, refl, ap, ◌≢◌, Bool, true, false, cond, List, [], ◌∷◌, ◌++◌, map, append_assoc, append-nil, ℕ, zero, suc, ◌-◌, leb, eqb, length, ne_eqb, arith}
+use Rattle.std.proofs.lemmas.Grind.{common_steps}
 use Rattle.table.specs.declared.Piece.{Piece}
 use Rattle.table.specs.Pieces.{hand_to, All, done, also}
 use Rattle.table.proofs.Pieces.{all_append}
@@ -25,14 +26,8 @@ module _ (better : Piece → Piece → Bool) (s : ℕ) where
   select_append (p ∷ ps) qs h = rw (select_append ps qs h) (go (eqb p.holder s) (select better s ps))
     where
       go : (c : Bool) (f : Found) → cond c (against better p (ps ++ qs) (with_end f qs)) (behind p (with_end f qs)) ≡ with_end (cond c (against better p ps f) (behind p f)) qs
-      go true nothing = refl
-      go true (at b x a) = win (better p x)
-        where
-          win : (t : Bool) → cond t (at [] p (ps ++ qs)) (at (p ∷ b) x (a ++ qs)) ≡ with_end (cond t (at [] p ps) (at (p ∷ b) x a)) qs
-          win true = refl
-          win false = refl
-      go false nothing = refl
-      go false (at b x a) = refl
+      go c nothing = grind (arith, common_steps)
+      go c (at b x a) = grind (arith, common_steps)
 
   -- what was taken, as the table has it, with qs, moved before, behind what stays
   abbrev tabled : ℕ → List Piece → Taken → Moved

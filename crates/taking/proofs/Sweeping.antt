@@ -2,7 +2,8 @@
 -- is heavier than what is still wanted: each goes whole, and it ends when none is left, with nothing split and nothing born.
 -- And what was handed over and is then swept and handed on lies as if it had been handed there at once: it lies last, and in its order.
 -- Assumes nothing.
-use Rattle.std.proofs.Common.{◌≡◌, refl, ap, ◌≢◌, Bool, true, false, cond, List, [], ◌∷◌, ◌++◌, map, append-nil, ℕ, zero, suc, ◌+◌, ◌-◌, ◌≤◌, arith, leb, eqb, length, length-append, eqb-true, eq-eqb, ne_eqb, le-leb}
+use Rattle.std.proofs.Common.{◌≡◌, refl, ap, ◌≢◌, Bool, true, false, List, [], ◌∷◌, ◌++◌, map, append-nil, ℕ, zero, suc, ◌+◌, ◌-◌, ◌≤◌, arith, leb, eqb, length, length-append, eqb-true, eq-eqb, ne_eqb, le-leb}
+use Rattle.std.proofs.lemmas.Grind.{common_steps}
 use mathlib.Core.List.{map-append, map-map}
 use borrow.Author.Tests.{eqb-false}
 use Rattle.table.specs.declared.Piece.{Piece}
@@ -88,11 +89,7 @@ all_handed c [] = done
 all_handed c (p ∷ ps) = also refl (all_handed c ps)
 
 if_any_handed : (d : ℕ) (p : Piece) → map (hand_to d) (if_any p) ≡ if_any (hand_to d p)
-if_any_handed d p = go (eqb p.weight 0)
-  where
-    go : (t : Bool) → map (hand_to d) (cond t [] (p ∷ [])) ≡ cond t [] (hand_to d p ∷ [])
-    go true = refl
-    go false = refl
+if_any_handed d p = grind (arith, common_steps)
 
 -- What was handed to c and is then swept from c and handed to d is what would have been handed to d at once.
 -- x hands to c, y hands on from c, z is x with y's destination.

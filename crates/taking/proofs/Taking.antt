@@ -1,7 +1,8 @@
 -- What every taking leaves, shown once, over any selection that picks a piece of the source while there is one: nothing is lost, the
 -- given pieces and what is born make up the weight wanted, and at most one piece more comes of it. `taken_law` says it of the four rules.
 -- Assumes nothing.
-use Rattle.std.proofs.Common.{◌≡◌, refl, ap, ◌≢◌, Bool, true, false, cond, List, [], ◌∷◌, ◌++◌, ℕ, zero, suc, ◌+◌, ◌-◌, ◌≤◌, min, arith, leb, eqb, length, length-append, leb-true, leb-false, eqb-true, eq-eqb}
+use Rattle.std.proofs.Common.{◌≡◌, refl, ◌≢◌, Bool, true, false, cond, List, [], ◌∷◌, ◌++◌, ℕ, zero, suc, ◌+◌, ◌-◌, ◌≤◌, min, arith, leb, eqb, length, length-append, leb-true, leb-false, eqb-true, eq-eqb}
+use Rattle.std.proofs.lemmas.Grind.{common_steps}
 use borrow.Author.Tests.{eqb-false}
 use Rattle.table.specs.declared.Piece.{Piece}
 use Rattle.table.specs.Pieces.{of_weight, Kind, weigh, sum, in_vessel, held, weight_of, All, done, also}
@@ -17,17 +18,11 @@ Good s ps (at b p a) = (ps ≡ b ++ (p ∷ a)) × (p.holder ≡ s)
 
 pub select_good : (better : Piece → Piece → Bool) (s : ℕ) (ps : List Piece) → Good s ps (select better s ps)
 select_good better s [] = refl
-select_good better s (p ∷ ps) = go (eqb p.holder s) refl (select better s ps) (select_good better s ps)
+select_good better s (p ∷ ps) = go (select better s ps) (select_good better s ps)
   where
-    win : p.holder ≡ s → (c : Bool) (b : List Piece) (x : Piece) (a : List Piece) → Good s ps (at b x a) → Good s (p ∷ ps) (cond c (at [] p ps) (at (p ∷ b) x a))
-    win h true b x a g = (refl, h)
-    win h false b x a g = (ap (λ l. p ∷ l) g.0, g.1)
-
-    go : (c : Bool) → eqb p.holder s ≡ c → (f : Found) → Good s ps f → Good s (p ∷ ps) (cond c (against better p ps f) (behind p f))
-    go true e nothing g = (refl, eqb-true _ _ e)
-    go true e (at b x a) g = win (eqb-true _ _ e) (better p x) b x a g
-    go false e nothing g = rw e (omega arith)
-    go false e (at b x a) g = (ap (λ l. p ∷ l) g.0, g.1)
+    go : (f : Found) → Good s ps f → Good s (p ∷ ps) (cond (eqb p.holder s) (against better p ps f) (behind p f))
+    go nothing g = grind (arith, common_steps)
+    go (at b x a) g = grind (arith, common_steps)
 
 -- A property that does not turn on the weight, if there is some.
 abbrev pub Reweigh {ℓ} : (Piece → Type ℓ) → Type ℓ
