@@ -46,7 +46,6 @@ impl<'a> Writer<'a> {
     }
 
     // Writes a number in decimal.
-    #[tactic(auto, using(crate::proofs::Decimal::number_written))]
     pub fn put_number(&mut self, n: u32)
         requires { Room self.old most_digits }
         ensures { Writes self.old (decimal n) most_digits self.new }
@@ -57,7 +56,6 @@ impl<'a> Writer<'a> {
     }
 
     // Writes a word and a number behind it.
-    #[tactic(auto, using(crate::proofs::TextLaws::then_written))]
     pub fn put_word(&mut self, text: &[u8], n: u32)
         requires { Room self.old (length text.now + most_digits) }
         ensures { Writes self.old (word text.now n) (length text.now + most_digits) self.new }
