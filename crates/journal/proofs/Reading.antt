@@ -5,22 +5,11 @@ use Rattle.std.proofs.Common.{◌≡◌, refl, ◌∙◌, true, false, cond, Lis
 use Rattle.std.proofs.lemmas.Grind.{common_steps}
 use Rattle.std.proofs.lemmas.List.Folds.{list_any_more, list_any_at}
 use Rattle.std.specs.List.{list_any}
-<<<<<<< HEAD
-use Rattle.std.specs.Prelude.{Result, Ok, Err}
-use Rattle.std.specs.Result.{result_unwrap_or, IsOk}
-use Rattle.std.proofs.lemmas.Bool.{or_parts}
-use Rattle.refusal.specs.declared.Refusal.{Refusal}
-use Rattle.refusal.specs.declared.Refusal.TheVariants.{AgeOver}
-use Rattle.refusal.specs.Refusals.{number_of, outcome_number}
-use Rattle.refusal.proofs.Refusals.{some_number}
-use Rattle.book.specs.Calls.{post, lift, tip, ask}
-=======
 use Rattle.std.specs.Prelude.{Ok, Err}
 use Rattle.std.specs.Result.{IsOk}
 use Rattle.refusal.specs.declared.Refusal.{Refusal}
 use Rattle.refusal.specs.Refusals.{number_of}
-use Rattle.refusal.proofs.Numbers.{neither}
->>>>>>> 4ffba7fbfbf83e74f487327e601dbe3f132380a9
+use Rattle.std.proofs.lemmas.Bool.{or_parts}
 use Rattle.journal.specs.declared.Call.{Call}
 use Rattle.journal.specs.Reading.{listed, call_read, called}
 use Rattle.journal.specs.Carried.{call_in, age_off}
