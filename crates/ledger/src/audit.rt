@@ -1,6 +1,6 @@
 // Whether a book adds up.
-ghost use Rattle.std.specs.Prelude.{◌≡◌, ◌≤◌, length};
-ghost use Rattle.book.specs.Head.{most_vessels, most_holders, is_holder, all_of, lot_fits, fits, all_zero, balanced, adds_up, Sized};
+ghost use Rattle.std.specs.Prelude.{◌≡◌, ◌≤◌};
+ghost use Rattle.book.specs.Head.{most_vessels, is_holder, all_of, lot_fits, fits, all_zero, balanced, adds_up, Sized};
 ghost use Rattle.refusal.specs.Numbers.{first};
 ghost use Rattle.refusal.specs.Refusals.{outcome_number};
 ghost use Rattle.book.specs.Memory.{book_checks};
@@ -12,33 +12,58 @@ use refusal::Refusal;
 use table::Piece;
 use table::reading::Pieces;
 
-// Whether a book of so many vessels has the holder: a vessel, or the scale.
-fn is_holder(holder: u32, vessels: u32) -> bool
-    ensures { result ≡ is_holder vessels holder }
-{
-    holder < vessels || holder == SCALE
+// What the pieces of a book have to fit: its count of vessels, and its last minute.
+#[derive(Clone, Copy, PartialEq, Eq, Debug)]
+struct Limits {
+    vessels: u32,
+    last: u32,
 }
 
-// Whether the piece has an origin, a birth minute and a weight that fit a book of so many vessels with this last minute.
-fn lot_fits(p: Piece, vessels: u32, last: u32) -> bool
-    ensures { result ≡ lot_fits vessels last p }
-{
-    p.origin < vessels && p.birth <= last && 1 <= p.weight
-}
+impl Limits {
+    // Whether the book has the holder: a vessel, or the scale.
+    fn has(self, holder: u32) -> bool
+        ensures { result ≡ is_holder self.vessels holder }
+    {
+        holder < self.vessels || holder == SCALE
+    }
 
-// Whether the piece fits such a book, wherever it lies.
-fn fits_in(p: Piece, vessels: u32, last: u32) -> bool
-    ensures { result ≡ fits vessels last p }
-{
-    is_holder(p.holder, vessels) && lot_fits(p, vessels, last)
-}
+    // Whether the origin, the birth minute and the weight of the piece fit.
+    fn lot_fits(self, p: Piece) -> bool
+        ensures { result ≡ lot_fits self.vessels self.last p }
+    {
+        p.origin < self.vessels && p.birth <= self.last && 1 <= p.weight
+    }
 
-// Whether the piece fits, and what is left of its holder's balance covers it.
-fn is_covered(p: Piece, vessels: u32, last: u32, rest: &[u32]) -> bool
-    requires { (vessels ≤ most_vessels) × (length rest.now ≡ most_holders) }
-    ensures { result ≡ covers vessels last rest.now p }
-{
-    fits_in(p, vessels, last) && p.weight <= rest[p.holder as usize]
+    // Whether the piece fits, wherever it lies.
+    fn fits(self, p: Piece) -> bool
+        ensures { result ≡ fits self.vessels self.last p }
+    {
+        self.has(p.holder) && self.lot_fits(p)
+    }
+
+    // Whether the piece fits, and what is left of its holder's balance covers it.
+    fn covers(self, p: Piece, rest: &[u32; HOLDERS]) -> bool
+        requires { self.vessels ≤ most_vessels }
+        ensures { result ≡ covers self.vessels self.last rest.now p }
+    {
+        self.fits(p) && p.weight <= rest[p.holder as usize]
+    }
+
+    // Whether the pieces draw the balances of all holders down to nothing.
+    #[tactic(auto, unfolding(crate::specs::Audit::drained))]
+    fn drained(self, pieces: &Pieces, balances: [u32; HOLDERS]) -> bool
+        requires { self.vessels ≤ most_vessels }
+        ensures { result ≡ drained self.vessels self.last balances pieces.now }
+    {
+        let mut rest = balances;
+        for p in pieces {
+            if !self.covers(p, &rest) {
+                return false;
+            }
+            rest[p.holder as usize] -= p.weight;
+        }
+        all_zero(&rest)
+    }
 }
 
 #[tactic(auto, unfolding(book::specs::Head::all_zero))]
@@ -46,22 +71,6 @@ fn all_zero(rest: &[u32]) -> bool
     ensures { result ≡ all_zero rest.now }
 {
     rest.iter().all(|x| *x == 0)
-}
-
-// Whether the pieces draw the balances of all holders down to nothing.
-#[tactic(auto, unfolding(crate::specs::Audit::drained))]
-fn drains(pieces: &Pieces, vessels: u32, last: u32, balances: [u32; HOLDERS]) -> bool
-    requires { vessels ≤ most_vessels }
-    ensures { result ≡ drained vessels last balances pieces.now }
-{
-    let mut rest = balances;
-    for p in pieces {
-        if !is_covered(p, vessels, last, &rest) {
-            return false;
-        }
-        rest[p.holder as usize] -= p.weight;
-    }
-    all_zero(&rest)
 }
 
 // Whether the pieces fit, and the balances of the head, the scale's among them, are their sums.
@@ -73,7 +82,11 @@ fn is_balanced(head: Head, pieces: &Pieces) -> bool
     let mut balances = [0u32; HOLDERS];
     balances[..BALANCES].copy_from_slice(&head.balances);
     balances[BALANCES] = head.scale;
-    drains(pieces, head.vessels, head.last, balances)
+    let limits = Limits {
+        vessels: head.vessels,
+        last: head.last,
+    };
+    limits.drained(pieces, balances)
 }
 
 // Whether the book adds up: one pass over the pieces.

@@ -1,7 +1,0 @@
--- `audit::drains` meets its contract. The invariant: drawing the pieces left from what is left of the balances ends as drawing all from all does.
-use Rattle.std.proofs.Common.{◌≡◌}
-use Rattle.ledger.specs.Audit.{drained}
-use Rattle.ledger.proofs.audit.drains.Given as goal
-
-abbrev pub invariant-loop-p : goal.invariant-loop-p
-invariant-loop-p l = drained l.vessels l.last l.rest l.p-iterator ≡ drained l.vessels l.last l.initial.rest l.pieces
