@@ -148,7 +148,8 @@ pub fn fill_rows(pieces: &Pieces, vessels: u32, report: &mut [u32])
     }
 }
 
-// What is asked, at the start of room that its checks found long enough.
+// What is asked, at the start of room that its checks found long enough. Pieces, count of vessels and room are parameters of their own here and
+// above: the pieces are read, the room is written, and that they fit is known of a book that adds up, not of one of them.
 #[tactic(auto, using(crate::proofs::Filling::room_laws))]
 pub fn fill(pieces: &Pieces, vessels: u32, asked: Report, room: &mut [u32])
     requires { (first (report_checks vessels (length room.old) asked) ≡ 0) × Reportable vessels pieces.now }

@@ -10,7 +10,8 @@ use picking::selection::Order;
 use table::{Piece, closing};
 use taking::Move;
 
-// What a move takes out of a table of so many pieces: those that the plan takes of the order.
+// What a move takes out of a table of so many pieces: those that the plan takes of the order. The table and the memory for lifted pieces are not
+// in it: each step writes both, and asks that they have room.
 #[derive(Clone, Copy)]
 pub struct Withdrawal<'a> {
     pub count: usize,

@@ -96,7 +96,8 @@ pub fn whole(head: Head, table: &[u32], room: &mut [u32]) -> Reply
     report(head, table, Report::Whole, room)
 }
 
-// The same, row by row: each is made by the held report of its vessel.
+// The same, row by row: each is made by the held report of its vessel. Not one function with `report`: a trait or a closure for the step that
+// differs would be longer than both.
 #[tactic(auto, using(crate::proofs::Asked::accepted))]
 pub fn whole_by_rows(head: Head, table: &[u32], room: &mut [u32]) -> Reply
     ensures { Asks head Whole table.now room.old room.new result }
