@@ -102,6 +102,7 @@ fn make_all(sheet: &Sheet, fresh: Head, table: &mut [u32]) -> Ran
 }
 
 // The sheet, and a table with a place at least.
+#[tactic(auto, using(sheet::proofs::ReadLaws::not_read, crate::proofs::RunLaws::unread, crate::proofs::RunLaws::no_place, crate::proofs::RunLaws::can_begin))]
 fn check<'a>(sheet: &'a [u8], table: &[u32]) -> Result<Sheet<'a>, Refusal>
     ensures { Checked sheet.now table.now result }
 {
