@@ -102,6 +102,9 @@ module _ (s : List ℕ) (n : ℕ) (e : n ≡ first (header_checks s)) where
   out_body vessels movements r z ev em er =
       passes (header_checks s) (body_checks (vessels_of s) (movements_of s) s) tt n r e z (rw (← ev, ← em) er)
 
+-- all that `Sheet::read` needs
+pub ruleset ways_out = (not_read, out_header, out_body, body_fits)
+
 pub good : (s : List ℕ) (n : ℕ) → n ≡ read_number s → n ≡ 0 → Laid s
 unfolding read_number
 good s n e z = laid s _ refl (passed_first (header_checks s) (body_checks (vessels_of s) (movements_of s) s) tt (sym e ∙ z))

@@ -50,7 +50,7 @@ impl<'a> Model for Sheet<'a> {
 
 impl<'a> Sheet<'a> {
     // The bytes as a sheet, or the first check that they fail.
-    #[tactic(auto, using(crate::proofs::ReadLaws::not_read, crate::proofs::ReadLaws::out_header, crate::proofs::ReadLaws::out_body, crate::proofs::ReadLaws::body_fits, refusal::proofs::Refusals::some_number))]
+    #[tactic(auto, using(crate::proofs::ReadLaws::ways_out, refusal::proofs::Refusals::some_number))]
     pub fn read(bytes: &'a [u8]) -> Result<Self, Refusal>
         ensures { MatchResult result (λ sheet. (sheet ≡ bytes.now) × (read_number bytes.now ≡ 0)) (λ why. number_of why ≡ read_number bytes.now) }
     {
