@@ -104,7 +104,7 @@ for (p, n, a), (q, m, b) in itertools.combinations(SHAPES, 2):
     if matcher.real_quick_ratio() > 0.9 and matcher.quick_ratio() > 0.9 and matcher.ratio() > 0.9:
         TWINS.append(f"{p}: {n} ~ {q}: {m} ({matcher.ratio():.2f})")
 show("  pairs of functions alike but for names, types and numbers", TWINS)
-STRUCTS = [(p, m.group(1), re.sub(r"\s+", " ", m.group(2))) for p, t in SOURCES.items() for m in re.finditer(r"struct (\w+) \{(.*?)\n\}", t, re.S)]
+STRUCTS = [(p, m.group(1), re.sub(r"\s+", " ", m.group(2))) for p, t in SOURCES.items() for m in re.finditer(r"struct (\w+)(?:<[^>]*>)? \{(.*?)\n\}", t, re.S)]
 show("  pairs of structs with the same fields", (f"{p}: {n} = {q}: {m}" for (p, n, a), (q, m, b) in itertools.combinations(STRUCTS, 2) if a == b))
 
 print("3. Loops that count by hand")

@@ -18,7 +18,7 @@ pub no_place : (t : List ℕ) → ltb (length t) 4 ≡ eqb (places_of t) 0
 unfolding places_of
 no_place t = grind (arith, nat_tests)
 
--- checks 1 and 4, as `refusal_of` finds them
+-- checks 1 and 4, by whether the book adds up
 module _ (h : Head) (t : List ℕ) (c : Bool) (long : 4 ≤ length t) (e : c ≡ adds_up h t) where
   pub book_on : c ≡ true → 0 ≡ first (book_checks h t)
   unfolding book_checks

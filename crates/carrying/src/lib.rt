@@ -86,7 +86,7 @@ fn next_head(head: Head, m: Motion, moved: Applied) -> Head
     next
 }
 
-// The motion, with pieces picked by a rule and with memory lent to work in. Here and above, head, table and memory are parameters of their own:
+// The motion, with pieces picked by a rule and with memory lent to work in. Here and in the crates above, head, table and memory are parameters of their own:
 // C lends head and table each by itself, and the table is written.
 pub fn carry(
     head: Head,

@@ -30,7 +30,7 @@ pub fn read32(s: &[u8], at: usize) -> u32
     u32::from_le_bytes([s[at], s[at + 1], s[at + 2], s[at + 3]])
 }
 
-// Puts `value` into the `width` bytes from `at` on. Not by `to_le_bytes`: that has four bytes, and a width may be any.
+// Puts `value` into the `width` bytes from `at` on. Not by `to_le_bytes`: the width is told by the caller, and is no constant.
 #[tactic(auto, using(crate::proofs::PutLaws::number_turn, crate::proofs::PutLaws::number_put))]
 pub fn put_number(out: &mut [u8], at: usize, width: usize, value: u32)
     requires { at + width ≤ length out.old }

@@ -135,7 +135,7 @@ fn fill_whole(pieces: &Pieces, vessels: u32, report: &mut [u32])
     fill_pass(pieces, &ByBoth { row: vessels }, report);
 }
 
-// The same at the start of the room, row by row: each row is lent to the held report of its vessel.
+// The same at the start of the room, row by row: each row, by its place in the room, is lent to the held report of its vessel.
 #[tactic(auto, using(crate::proofs::Filling::rows_none, crate::proofs::Filling::rows_next))]
 pub fn fill_rows(pieces: &Pieces, vessels: u32, report: &mut [u32])
     requires { (vessels * vessels ≤ length report.old) × Reportable vessels pieces.now }

@@ -68,11 +68,11 @@ fn read_call(six: &[u32; CALL_SIZE]) -> Result<Call, Refusal>
         }),
         [HELD, vessel, ..] => Call::Report(Report::Held(vessel)),
         [SPREAD, origin, from, to, ..] => Call::Report(Report::Spread(origin, from, to)),
-        _ => Call::Report(Report::Whole),
+        _ => Call::Report(Report::Whole), // 3, and every other number
     })
 }
 
-// That call is made.
+// That call is made: the one place, beside the one where it was read, that looks at its kind.
 fn make(head: Head, table: &mut [u32], call: Call, room: &mut [u32]) -> Reply
     ensures { Makes head (called call room.old) table.old room.old table.new room.new result }
 {
@@ -119,7 +119,7 @@ fn call_all(
 {
     let mut head = fresh;
     for (i, six) in calls.iter().enumerate() {
-        let call = read_call(six).unwrap();
+        let call = read_call(six).unwrap(); // its age was checked before
         let made = make(head, table, call, room);
         answers[i] = made.number;
         head = made.head;

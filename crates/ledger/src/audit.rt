@@ -13,7 +13,7 @@ use table::Piece;
 use table::reading::Pieces;
 
 // What the pieces of a book have to fit: its count of vessels, and its last minute.
-#[derive(Clone, Copy, PartialEq, Eq, Debug)]
+#[derive(Clone, Copy, Debug, PartialEq, Eq)]
 struct Limits {
     vessels: u32,
     last: u32,
@@ -66,6 +66,7 @@ impl Limits {
     }
 }
 
+// Whether nothing is left of any balance: a function of its own, since its one law is about it alone.
 #[tactic(auto, unfolding(book::specs::Head::all_zero))]
 fn all_zero(rest: &[u32]) -> bool
     ensures { result ≡ all_zero rest.now }
@@ -95,12 +96,10 @@ pub fn adds_up(head: Head, table: &[u32]) -> bool
     ensures { result ≡ adds_up head table.now }
 {
     let n = head.pieces as usize;
-    if !(1..=opening::VESSELS).contains(&head.vessels) || table::places(table) < n {
+    if opening::check_opening(head.rule, head.vessels).is_err() || table::places(table) < n {
         return false;
     }
-    head.rule <= opening::LAST_RULE
-        && head.pieces <= head.accepted
-        && is_balanced(head, &Pieces::of(table, n))
+    head.pieces <= head.accepted && is_balanced(head, &Pieces::of(table, n))
 }
 
 // Checks 1 and 4, which every call makes first.

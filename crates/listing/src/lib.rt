@@ -70,7 +70,7 @@ fn put_last(out: &mut Writer, index: u32, number: u32)
     }
 }
 
-// The lines of a run, or the only one where it was refused.
+// The lines of a run, or the only one where it was refused: then C's `Ran` has a head of zeros.
 #[tactic(auto, using(crate::proofs::LineLaws::pieces_count))]
 fn put_run(out: &mut Writer, ran: Ran, table: &[u32])
     requires { (4 * ran.head.pieces ≤ length table.now) × Room out.old (room_for ran.head.pieces) }

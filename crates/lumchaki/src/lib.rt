@@ -106,6 +106,7 @@ pub extern "C" fn lumchaki_name(sheet: &[u8], vessel: u32) -> usize
     name.len()
 }
 
+// C has no `Result`: it gets the number.
 #[unsafe(no_mangle)]
 pub extern "C" fn lumchaki_name_number(sheet: &[u8], vessel: u32) -> u32
     ensures { result ≡ name_number sheet.now vessel }
@@ -113,6 +114,7 @@ pub extern "C" fn lumchaki_name_number(sheet: &[u8], vessel: u32) -> u32
     sheet::name_number(sheet, vessel)
 }
 
+// Likewise.
 #[unsafe(no_mangle)]
 pub extern "C" fn lumchaki_write(
     rule: u32,

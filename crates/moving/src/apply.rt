@@ -93,7 +93,7 @@ impl<'a> Withdrawal<'a> {
         self.put_remainder(table, lifted)
     }
 
-    // The answer where the plan was applied and leaves so many pieces.
+    // The answer where the plan was applied and leaves so many pieces: with a key left, what was still wanted is 1 split; without, it is born.
     fn answer(self, count: usize) -> Applied
         requires { (self.plan.whole ≤ count_of self.order) × (count_of self.order ≤ most_places) }
         ensures { result ≡ plan_answer self.entry count }

@@ -22,7 +22,7 @@ const LIFTED_PLACES: usize = table::PLACES + 1;
 pub const LIFTED: usize = 4 * LIFTED_PLACES;
 
 // What moving the pieces did, and the count of pieces after it.
-#[derive(Clone, Copy, PartialEq, Eq, Debug)]
+#[derive(Clone, Copy, Debug, PartialEq, Eq)]
 pub struct Applied {
     pub whole: u32,
     pub split: u32,

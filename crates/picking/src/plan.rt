@@ -6,7 +6,7 @@ use crate::selection::Order;
 use table::reading::Pieces;
 
 // How many pieces go whole, and the weight still wanted then.
-#[derive(Clone, Copy, PartialEq, Eq, Debug)]
+#[derive(Clone, Copy, Debug, PartialEq, Eq)]
 pub struct Plan {
     pub whole: usize,
     pub left: u32,

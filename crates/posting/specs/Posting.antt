@@ -39,8 +39,7 @@ transferred h (Ok c) = record { number = 0; head = c.head; whole = c.whole; spli
 transferred h (Err why) = refused_with h (number_of why)
 
 abbrev pub tipped : Head → Result Carried Refusal → Reply
-tipped h (Ok c) = record { number = 0; head = c.head }
-tipped h (Err why) = record { number = number_of why; head = h }
+tipped h r = record { number = (transferred h r).number; head = (transferred h r).head }
 
 -- What a transfer or a lift promises, and what a tip does: answer and table are those of the call.
 pub record Posts (h : Head) (c : Call) (t t' : List ℕ) (r : Transferred) : Type 0 where

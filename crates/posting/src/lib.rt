@@ -92,22 +92,6 @@ fn transferred(head: Head, posted: Result<Carried, Refusal>) -> Transferred
     }
 }
 
-// What is answered to a tip.
-fn tipped(head: Head, posted: Result<Carried, Refusal>) -> Reply
-    ensures { result ≡ tipped head posted }
-{
-    match posted {
-        Ok(carried) => Reply {
-            number: 0,
-            head: carried.head,
-        },
-        Err(why) => Reply {
-            number: u32::from(why),
-            head,
-        },
-    }
-}
-
 // A transfer on a book that is known to add up, with memory lent to work in.
 #[tactic(auto, using(crate::proofs::Posted::transfer_known_posts))]
 pub fn transfer_known(
@@ -143,5 +127,5 @@ pub fn lift(head: Head, table: &mut [u32], x: Lift) -> Transferred
 pub fn tip(head: Head, table: &mut [u32], y: Tip) -> Reply
     ensures { Tips head y table.old table.new result }
 {
-    tipped(head, post(head, table, y))
+    transferred(head, post(head, table, y)).into()
 }

@@ -14,7 +14,7 @@ use ledger::audit;
 use refusal::Refusal;
 use table::reading::Pieces;
 
-// The checks after 1 and 4.
+// The checks after 1 and 4. What is asked is told by its variant, which is looked at once here and once where the room is filled.
 #[tactic(auto, unfolding(book::specs::Reports::report_checks, book::specs::Head::balance_at))]
 fn check_asked(head: Head, asked: Report, room: usize) -> Result<(), Refusal>
     ensures { outcome_number result ≡ first (loaded (of_head head) ∷ report_checks head.vessels room asked) }
@@ -96,8 +96,8 @@ pub fn whole(head: Head, table: &[u32], room: &mut [u32]) -> Reply
     report(head, table, Report::Whole, room)
 }
 
-// The same, row by row: each is made by the held report of its vessel. Not one function with `report`: a trait or a closure for the step that
-// differs would be longer than both.
+// The same, row by row: each is made by the held report of its vessel. Not one function with `report`: they share `check`, and the step
+// behind it is what differs; a trait for it would be longer than both.
 #[tactic(auto, using(crate::proofs::Asked::accepted))]
 pub fn whole_by_rows(head: Head, table: &[u32], room: &mut [u32]) -> Reply
     ensures { Asks head Whole table.now room.old room.new result }

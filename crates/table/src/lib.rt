@@ -13,7 +13,7 @@ pub mod reading; // reading.rt: the pieces of a book as one value, where they ar
 pub const PLACES: usize = 4096;
 
 // Weight of one origin and birth minute, in one vessel.
-#[derive(Clone, Copy, PartialEq, Eq, Debug, Default)]
+#[derive(Clone, Copy, Debug, PartialEq, Eq, Default)]
 pub struct Piece {
     pub holder: u32,
     pub origin: u32,

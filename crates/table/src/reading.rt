@@ -8,7 +8,7 @@ use crate::Piece;
 use std::marker::Model;
 
 // The pieces of a book, read from the table that they lie in: four numbers for each. A type with a view and a lifetime cannot be `Copy`,
-// so functions take it by reference.
+// so functions take it by reference. The numbers are flat, as C lends them, and cut by four where a piece is read.
 #[derive(Drop)]
 pub struct Pieces<'a> {
     numbers: &'a [u32],
@@ -64,7 +64,7 @@ impl<'s, 'a> IntoIterator for &'s Pieces<'a> {
     }
 }
 
-// The pieces still to be read, in order of receipt.
+// The pieces still to be read, in order of receipt. A type of its own, as std's iterators are: it is used up, and `Pieces` are not.
 #[derive(Drop)]
 pub struct Iter<'a> {
     numbers: &'a [u32],

@@ -107,6 +107,7 @@ impl<'a> Draft<'a> {
     }
 }
 
+// Puts the rule and the counts into a header.
 #[tactic(auto, using(fields::proofs::PutLaws::puts))]
 fn put_counts(out: &mut [u8; HEADER_SIZE], header: Header)
     ensures { out.new ≡ sets out.old rule_at (count_bytes header.rule header.vessels header.movements) }
@@ -116,6 +117,7 @@ fn put_counts(out: &mut [u8; HEADER_SIZE], header: Header)
     put_number(out, MOVEMENTS_AT, 4, header.movements);
 }
 
+// Puts where the parts lie, and the length, into a header.
 #[tactic(auto, using(fields::proofs::PutLaws::puts))]
 fn put_layout(out: &mut [u8; HEADER_SIZE], header: Header)
     requires { Within header.vessels header.movements }

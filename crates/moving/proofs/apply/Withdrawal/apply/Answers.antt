@@ -1,4 +1,4 @@
--- `apply::apply` meets its contract: what lifting and settling promise, put together.
+-- `Withdrawal::apply` meets its contract: what lifting and settling promise, put together.
 use Rattle.std.proofs.Common.{rules}
 use Rattle.moving.proofs.Applying.{apply_settling, apply_end}
 use Rattle.moving.proofs.apply.Withdrawal.apply.Goals as goal

@@ -1,4 +1,4 @@
--- `apply::lift`: what its invariant leaves to show.
+-- `Withdrawal::lift`: what its invariant leaves to show.
 use Rattle.std.proofs.Common.{rules}
 use Rattle.moving.proofs.Lifting.{lift_next, lift_end}
 use Rattle.moving.proofs.apply.Withdrawal.lift.Goals as goal

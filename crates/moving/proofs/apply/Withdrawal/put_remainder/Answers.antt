@@ -1,4 +1,4 @@
--- `apply::put_remainder` meets its contract: nothing is wanted, or the next piece is split, or there is none and the rest is born.
+-- `Withdrawal::put_remainder` meets its contract: nothing is wanted, or the next piece is split, or there is none and the rest is born.
 use Rattle.std.proofs.Common.{rules}
 use Rattle.moving.proofs.Remainder.{remains_none, remains_split, remains_born}
 use Rattle.moving.proofs.apply.Withdrawal.put_remainder.Goals as goal
