@@ -101,7 +101,7 @@ module _ (s : List ℕ) (read : read_number s ≡ 0) (bytes : Below 256 s) where
   pub asked_numbers : (i : ℕ) → i < movements → movement_at s i ≡ movement_answer 0 (given_in (drop (given_size * i) (numbers_of s)))
   asked_numbers i h =
       let same : get_or es i no_entry ≡ get_or (entries_given movements (numbers_of s)) i no_entry = rw same_entries in
-      entry_of s i h ∙ ap (movement_answer 0) (same ∙ group_at given_size given_in movements (numbers_of s) i no_entry h)
+      ap (movement_answer 0) (entry_of s i h ∙ same ∙ group_at given_size given_in movements (numbers_of s) i no_entry h)
 
   -- no check of the writer applies
   sized_names : length (names_of s) ≡ name_size * vessels

@@ -2,15 +2,14 @@
 use Rattle.std.proofs.Common.{ℕ, ◌+◌, ◌<◌, ◌≤◌, arith, ◌≡◌, refl, sym, ap, ◌∙◌, List, ◌++◌, length, length-set, map, set, take, drop, take_all, take-append-drop, drop-drop}
 use Rattle.std.proofs.lemmas.List.{drop-set-lt, map_more, take_more_set}
 use Rattle.fields.specs.Layout.{most_movements}
+use Rattle.fields.specs.declared.entries.Entry.{Entry}
 use Rattle.fields.specs.Movements.{entry_size, entry_in, no_entry, entry_numbers}
 use Rattle.fields.proofs.GroupLaws.{length_groups}
 use Rattle.sheet.specs.declared.answer.Header.{Header}
-use Rattle.sheet.specs.declared.answer.Movement.{Movement}
 use Rattle.sheet.specs.Sheet.{movements_of, entries_read, read_number}
-use Rattle.sheet.specs.Answers.{header_numbers, movement_at}
+use Rattle.sheet.specs.Answers.{header_numbers, entry_at}
 use Rattle.sheet.proofs.ReadLaws.{good}
 use Rattle.sheet.proofs.AnswerLaws.{entry_of}
-use Rattle.roundtrip.specs.Rewriting.{movement_numbers}
 
 pub count : (s : List ℕ) → length (entries_read s) ≡ movements_of s
 count s = length_groups entry_size entry_in (movements_of s) _
@@ -24,10 +23,10 @@ module _ (s : List ℕ) (before taken : List (List ℕ)) (i : ℕ) (inv : Taken 
   pub there : i < header.movements → i < most_movements
   there h = let l = good s _ refl told.1 in omega (arith, rw told.0 at h)
 
-  pub numbers_turn : (m : Movement) (five : List ℕ) → i < header.movements → m ≡ movement_at s i → five ≡ movement_numbers m → Taken s (i + 1) before (set taken i five)
-  numbers_turn m five h em ef =
+  pub numbers_turn : (e : Entry) (five : List ℕ) → i < header.movements → e ≡ entry_at s i → five ≡ entry_numbers e → Taken s (i + 1) before (set taken i five)
+  numbers_turn e five h ee ef =
       let inside : i < movements_of s = rw told.0 at h in
-      let same : five ≡ entry_numbers _ = ef ∙ ap movement_numbers (em ∙ entry_of s i inside) in
+      let same : five ≡ entry_numbers _ = ef ∙ ap entry_numbers (ee ∙ entry_of s i inside) in
       let known : i < length (entries_read s) = rw count inside in (
         length-set taken i five ∙ inv.0,
         take_more_set taken i five (rw inv.0 (there h)) ∙ rw (inv.1, same) (sym (map_more entry_numbers (entries_read s) i no_entry known)),

@@ -127,7 +127,7 @@ module _ (rule vessels room : ℕ) (names numbers : List ℕ) (accepted : write_
   pub same_movement : (i : ℕ) → i < count → movement_at s i ≡ movement_answer 0 (given_in (drop (given_size * i) numbers))
   same_movement i h =
       let same : get_or (entries_read s) i no_entry ≡ get_or (entries_given count numbers) i no_entry = rw (header.held, header.moved, back) in
-      entry_of s i (rw header.moved h) ∙ ap (movement_answer 0) (same ∙ group_at given_size given_in count numbers i no_entry h)
+      ap (movement_answer 0) (entry_of s i (rw header.moved h) ∙ same ∙ group_at given_size given_in count numbers i no_entry h)
 
   pub same_name : (v : ℕ) → v < vessels → name_bytes s v ≡ take name_size (drop (name_size * v) names)
   same_name v h =

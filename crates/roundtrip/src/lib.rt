@@ -5,24 +5,18 @@ ghost use Rattle.std.specs.Prelude.{◌≡◌, ◌++◌, length, map, drop};
 ghost use Rattle.refusal.specs.Refusals.{outcome_number};
 ghost use Rattle.fields.specs.Movements.{entry_numbers};
 ghost use Rattle.sheet.specs.Sheet.{movements_of, entries_read};
-ghost use Rattle.roundtrip.specs.Rewriting.{movement_numbers, rewrite_number, rewritten};
+ghost use Rattle.roundtrip.specs.Rewriting.{rewrite_number, rewritten};
 
+use fields::entries::Entry;
 use fields::layout::{GIVEN_SIZE, MOST_MOVEMENTS};
 use refusal::Refusal;
 use sheet::Sheet;
-use sheet::answer::Movement;
 
 // The numbers of a movement, as the writer is given them.
-fn movement_numbers(m: Movement) -> [u32; GIVEN_SIZE]
-    ensures { result ≡ movement_numbers m }
+fn entry_numbers(e: Entry) -> [u32; GIVEN_SIZE]
+    ensures { result ≡ entry_numbers e }
 {
-    [
-        m.source,
-        m.destination,
-        m.minute,
-        m.weight,
-        u32::from(m.age),
-    ]
+    [e.source, e.destination, e.minute, e.weight, e.age]
 }
 
 // Takes the numbers of each movement of a sheet: there is room for those of any.
@@ -30,7 +24,7 @@ fn take_numbers(sheet: &Sheet, taken: &mut [[u32; GIVEN_SIZE]; MOST_MOVEMENTS])
     ensures { taken.new ≡ map entry_numbers (entries_read sheet.now) ++ drop (movements_of sheet.now) taken.old }
 {
     for i in 0..sheet.header().movements {
-        taken[i as usize] = movement_numbers(sheet.movement(i));
+        taken[i as usize] = entry_numbers(sheet.movement(i));
     }
 }
 

@@ -57,13 +57,13 @@ fn make(
     requires { (i < movements_of sheet.now) × Audited head table.old }
     ensures { Posts head (post (transfer_at sheet.now i)) table.old table.new (transferred head result) }
 {
-    let m = sheet.movement(i);
+    let e = sheet.movement(i);
     let x = Transfer {
-        source: m.source,
-        destination: m.destination,
-        minute: m.minute,
-        weight: m.weight,
-        age: m.age,
+        source: e.source,
+        destination: e.destination,
+        minute: e.minute,
+        weight: e.weight,
+        age: e.age as u16,
     };
     posting::transfer_known(head, table, x, work)
 }
@@ -101,7 +101,7 @@ fn make_all(sheet: &Sheet, fresh: Head, table: &mut [u32]) -> Ran
     }
 }
 
-// The sheet, and a table with a place at least.
+// The sheet, if it reads well and the table has a place.
 #[tactic(auto, using(sheet::proofs::ReadLaws::not_read, crate::proofs::RunLaws::unread, crate::proofs::RunLaws::no_place, crate::proofs::RunLaws::can_begin))]
 fn check<'a>(sheet: &'a [u8], table: &[u32]) -> Result<Sheet<'a>, Refusal>
     ensures { Checked sheet.now table.now result }

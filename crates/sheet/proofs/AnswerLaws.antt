@@ -11,17 +11,17 @@ use Rattle.fields.specs.declared.entries.Entry.{Entry}
 use Rattle.fields.specs.Layout.{name_size, header_size, name_start, entries_start}
 use Rattle.fields.specs.Movements.{entry_size, entry_in, no_entry}
 use Rattle.sheet.specs.Sheet.{entries_read, names_read, vessels_of, movements_of, read_number}
-use Rattle.sheet.specs.Answers.{header_numbers, asked_number, movement_answer, movement_at, movement_number, movement_asked, name_number, name_bytes}
+use Rattle.sheet.specs.Answers.{header_numbers, asked_number, entry_at, movement_answer, movement_number, movement_asked, name_number, name_bytes}
 use Rattle.fields.proofs.ChunkLaws.{entries_cut}
 use Rattle.fields.proofs.GroupLaws.{group_at, length_groups}
 use Rattle.sheet.proofs.ReadLaws.{good}
 
 -- the movements and the names of a sheet, each by its index
-pub entry_of : (s : List ℕ) (i : ℕ) → i < movements_of s → movement_at s i ≡ movement_answer 0 (get_or (entries_read s) i no_entry)
+pub entry_of : (s : List ℕ) (i : ℕ) → i < movements_of s → entry_at s i ≡ get_or (entries_read s) i no_entry
 entry_of s i h =
     let d = drop (entries_start (vessels_of s)) s in
     let e : drop (entry_size * i) d ≡ drop (entries_start (vessels_of s) + entry_size * i) s = drop-drop (entry_size * i) (entries_start (vessels_of s)) s in
-    sym (ap (movement_answer 0) (group_at entry_size entry_in (movements_of s) d i no_entry h ∙ ap entry_in e))
+    sym (group_at entry_size entry_in (movements_of s) d i no_entry h ∙ ap entry_in e)
 
 pub name_of : (s : List ℕ) (v : ℕ) → v < vessels_of s → name_bytes s v ≡ get_or (names_read s) v []
 name_of s v h = rw (group_at name_size (take name_size) (vessels_of s) (drop header_size s) v [] h, drop-drop)
@@ -62,9 +62,9 @@ module _ (s : List ℕ) (entries : List (List ℕ)) (known : map entry_in entrie
       let size : length entries ≡ movements_of s = sym (length-map entries entry_in) ∙ ap length known ∙ length_groups entry_size entry_in (movements_of s) _ in
       rw size h
 
-  pub entry_known : (e : Entry) → e ≡ entry_in (get_or entries index []) → movement_answer 0 e ≡ movement_at s index
+  pub entry_known : (e : Entry) → e ≡ entry_in (get_or entries index []) → e ≡ entry_at s index
   entry_known e is =
-      ap (movement_answer 0) (is ∙ sym (get_or-map entry_in entries index [] no_entry (entry_there)) ∙ ap (λ (es : List Entry). get_or es index no_entry) known) ∙ sym (entry_of s index h)
+      is ∙ sym (get_or-map entry_in entries index [] no_entry entry_there) ∙ ap (λ (es : List Entry). get_or es index no_entry) known ∙ sym (entry_of s index h)
 
 -- the eight bytes of a name lie in a sheet that has it
 pub name_fits : (s : List ℕ) (vessel n : ℕ) → n ≡ name_number s vessel → n ≡ 0 → name_start vessel + name_size ≤ length s

@@ -14,7 +14,6 @@ use Rattle.fields.proofs.LayoutLaws.{movements_fit}
 use Rattle.fields.proofs.GroupLaws.{length_groups}
 use Rattle.fields.proofs.EntryLaws.{each_passed, not_given}
 use Rattle.names.specs.Names.{names_off}
-use Rattle.sheet.specs.declared.answer.Movement.{Movement}
 use Rattle.sheet.specs.Sheet.{names_read, entries_read, rule_of, vessels_of, movements_of, no_sheet, layout_off, read_checks, read_number}
 use Rattle.sheet.specs.Answers.{movement_at}
 use Rattle.sheet.specs.Former.{former_movements_off, former_entry_checks, former_read_number}
@@ -92,5 +91,5 @@ module _ (s : List ℕ) where
     former_sheets =
         let count : length (entries_read s) ≡ movements_of s = length_groups entry_size entry_in (movements_of s) (drop (entries_start (vessels_of s)) s) in (
           former_numbers (λ q n. omega arith) (λ q. omega arith) ∙ z,
-          λ i h. ap (λ (m : Movement). m.age) (entry_of s i h) ∙ age_is i (rw count h),
+          λ i h. ap (λ (e : Entry). e.age) (entry_of s i h) ∙ age_is i (rw count h),
         )

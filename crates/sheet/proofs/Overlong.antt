@@ -1,5 +1,5 @@
 -- LONGER THAN ANY SHEET. Of an input that is longer than the longest sheet only the header tells its number: with another end it gets the same,
--- and never 0. So a program need not read more than one byte beyond the longest sheet (`cut_number`).
+-- and never 0. So a program need not read more than one byte beyond the longest sheet (`cut_refusal`).
 -- Assumes nothing.
 use Rattle.std.proofs.Common.{◌≡◌, ℕ, zero, suc, ◌+◌, ◌*◌, ◌<◌, ◌≤◌, Bool, true, false, not, ◌||◌, List, ◌∷◌, eqb, ltb, length, get_or, take, drop, refl, sym, ◌∙◌, ap, ap₂, arith, ltb-false, le-ltb, ne_eqb}
 use Rattle.std.proofs.lemmas.List.{get_or-drop, get_or-take, take-take, drop-drop, length-take-le}

@@ -30,9 +30,12 @@ reading s = if_zero (read_number s) (header_of s) (refused_reading (read_number 
 abbrev pub movement_answer : ℕ → Entry → Movement
 movement_answer n e = record { number = n; source = e.source; destination = e.destination; minute = e.minute; weight = e.weight; age = e.age }
 
--- The movement at an index of a sheet that reads well.
+-- The movement at an index of a sheet that reads well, as the sheet has it and as C is told it.
+abbrev pub entry_at : List ℕ → ℕ → Entry
+entry_at s index = entry_in (drop (entries_start (vessels_of s) + entry_size * index) s)
+
 abbrev pub movement_at : List ℕ → ℕ → Movement
-movement_at s index = movement_answer 0 (entry_in (drop (entries_start (vessels_of s) + entry_size * index) s))
+movement_at s index = movement_answer 0 (entry_at s index)
 
 -- The sheet's own number, then a check of what is asked for.
 unfoldable pub asked_number : List ℕ → Check → ℕ
@@ -46,8 +49,8 @@ abbrev pub movement_asked : List ℕ → ℕ → Movement
 movement_asked s index = if_zero (movement_number s index) (movement_at s index) (movement_answer (movement_number s index) no_entry)
 
 -- What C is told of a movement that was found, or of the refusal.
-abbrev pub movement_of : Result Movement Refusal → Movement
-movement_of (Ok m) = m
+abbrev pub movement_of : Result Entry Refusal → Movement
+movement_of (Ok e) = movement_answer 0 e
 movement_of (Err why) = movement_answer (number_of why) no_entry
 
 -- "5 after the sheet's own"

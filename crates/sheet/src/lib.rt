@@ -2,11 +2,13 @@
 // Any bytes of any length may come in; a refusal has its number, and all else is 0 or empty.
 #![tactic(auto)]
 
-ghost use Rattle.std.specs.Prelude.{IfOk, ◌≡◌};
+ghost use Rattle.std.specs.Prelude.{IfOk, ◌≡◌, ◌≤◌};
 ghost use Rattle.refusal.specs.Refusals.{outcome_number};
+ghost use Rattle.book.specs.Transfer.{most_age};
 ghost use Rattle.sheet.specs.Answers.{reading, movement_asked, movement_of, name_number, NamePart};
 
 use answer::{Movement, Reading};
+use fields::entries::Entry;
 use fields::layout::{NAME_SIZE, name_start};
 pub use reader::Sheet;
 use refusal::Refusal;
@@ -40,9 +42,9 @@ pub fn read(sheet: &[u8]) -> Reading
 
 // The movement at an index, or why there is none.
 #[tactic(auto, unfolding(crate::specs::Answers::asked_number))]
-fn find_movement(sheet: &[u8], index: u32) -> Result<Movement, Refusal>
+fn find_movement(sheet: &[u8], index: u32) -> Result<Entry, Refusal>
     ensures answer { movement_of result ≡ movement_asked sheet.now index }
-    ensures accepted { IfOk result (λ m. m.number ≡ 0) }
+    ensures accepted { IfOk result (λ e. e.age ≤ most_age) }
 {
     Sheet::read(sheet)?.get(index).ok_or(Refusal::PastEnd)
 }
@@ -52,7 +54,14 @@ pub fn movement(sheet: &[u8], index: u32) -> Movement
     ensures { result ≡ movement_asked sheet.now index }
 {
     match find_movement(sheet, index) {
-        Ok(movement) => movement,
+        Ok(e) => Movement {
+            number: 0,
+            source: e.source,
+            destination: e.destination,
+            minute: e.minute,
+            weight: e.weight,
+            age: e.age as u16,
+        },
         Err(why) => Movement {
             number: u32::from(why),
             source: 0,
@@ -84,6 +93,7 @@ pub fn name_number(sheet: &[u8], vessel: u32) -> u32
 }
 
 // A vessel's name: that part of the sheet without its zeros, and on any refusal the empty part at the sheet's start.
+// By places in the sheet: what is promised is where the part lies, and std's chunks do not tell.
 pub fn name<'a>(sheet: &'a [u8], vessel: u32) -> &'a [u8]
     ensures { NamePart sheet.now vessel sheet.entry.ref_ptr result.now result.ref_ptr }
 {

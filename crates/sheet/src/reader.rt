@@ -2,13 +2,15 @@
 ghost use Rattle.std.specs.Prelude.{◌≡◌, ◌<◌, ◌≤◌, length, map, MatchOption, MatchResult};
 ghost use Rattle.refusal.specs.Numbers.{first};
 ghost use Rattle.refusal.specs.Refusals.{number_of, outcome_number};
+ghost use Rattle.book.specs.Transfer.{most_age};
 ghost use Rattle.fields.specs.Movements.{entry_in};
 ghost use Rattle.fields.specs.Layout.{sheet_size, Within};
 ghost use Rattle.sheet.specs.Sheet.{body_checks, entries_read, movements_of, names_of, read_number};
-ghost use Rattle.sheet.specs.Answers.{header_numbers, movement_at};
+ghost use Rattle.sheet.specs.Answers.{header_numbers, entry_at};
 
-use crate::answer::{Header, Movement};
+use crate::answer::Header;
 use crate::header::read_header;
+use fields::entries::{Entry, read_entry};
 use fields::layout::{ENTRY_SIZE, HEADER_SIZE, NAME_SIZE, name_start};
 use refusal::Refusal;
 use std::marker::Model;
@@ -59,7 +61,8 @@ impl<'a> Sheet<'a> {
         Ok(Sheet { bytes, numbers })
     }
 
-    // The rule, the count of vessels and the count of movements; a sheet is one that reads well.
+    // The rule, the count of vessels and the count of movements.
+    // That the sheet reads well is said here, since callers do not see the invariant.
     pub fn header(&self) -> Header
         ensures { (result ≡ header_numbers self.now) × (read_number self.now ≡ 0) }
     {
@@ -84,24 +87,16 @@ impl<'a> Sheet<'a> {
     }
 
     // The movement at an index.
-    pub fn movement(&self, index: u32) -> Movement
+    pub fn movement(&self, index: u32) -> Entry
         requires { index < movements_of self.now }
-        ensures { result ≡ movement_at self.now index }
+        ensures { (result ≡ entry_at self.now index) × (result.age ≤ most_age) }
     {
-        let e = fields::entries::read_entry(&self.entries()[index as usize]);
-        Movement {
-            number: 0,
-            source: e.source,
-            destination: e.destination,
-            minute: e.minute,
-            weight: e.weight,
-            age: e.age as u16,
-        }
+        read_entry(&self.entries()[index as usize])
     }
 
     // The same, if the sheet has it.
-    pub fn get(&self, index: u32) -> Option<Movement>
-        ensures { MatchOption result (movements_of self.now ≤ index) (λ m. (index < movements_of self.now) × (m ≡ movement_at self.now index)) }
+    pub fn get(&self, index: u32) -> Option<Entry>
+        ensures { MatchOption result (movements_of self.now ≤ index) (λ e. (index < movements_of self.now) × ((e ≡ entry_at self.now index) × (e.age ≤ most_age))) }
     {
         if index < self.numbers.movements {
             Some(self.movement(index))

@@ -8,7 +8,7 @@ bounds-taken-i c = there c.args.sheet.now _ _ _ c.loop-i.invariant _ c.header-i-
 
 pub loop-i-preserved : goal.loop-i-preserved
 loop-i-preserved c =
-    numbers_turn c.args.sheet.now _ _ _ c.loop-i.invariant _ c.header-i-end.ensures _ _ c.loop-i-test.true c.movement.ensures c.movement_numbers.ensures
+    numbers_turn c.args.sheet.now _ _ _ c.loop-i.invariant _ c.header-i-end.ensures _ _ c.loop-i-test.true c.movement.ensures.0 c.entry_numbers.ensures
 
 pub returns : goal.returns
 returns c = numbers_end c.args.sheet.now _ _ _ c.loop-i.invariant _ c.header-i-end.ensures (omega (arith, c.loop-i-test.false, c.loop-i.auto.i-end))

@@ -6,4 +6,4 @@ pub bounds-entries-index : goal.bounds-entries-index
 bounds-entries-index c = entry_there c.args.self.now _ c.entries.ensures _ c.requires
 
 pub returns : goal.returns
-returns c = entry_known c.args.self.now _ c.entries.ensures _ c.requires _ c.read_entry-e.ensures.0
+returns c = (entry_known c.args.self.now _ c.entries.ensures _ c.requires _ c.read_entry.ensures.0, c.read_entry.ensures.1)
