@@ -19,6 +19,7 @@ use sheet::answer::{Movement, Reading};
 
 mod scale; // scale.rt: lift and tip
 
+// Rule and count of vessels are two numbers in C, and stay two down to `ledger::opening`.
 #[unsafe(no_mangle)]
 pub extern "C" fn lumchaki_open(rule: u32, vessels: u32) -> Reply
     ensures { result ≡ opening rule vessels }

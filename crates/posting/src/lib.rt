@@ -30,7 +30,8 @@ trait Posting: Copy {
     // of a book under a rule
     ghost rule: { Self → ℕ → ℕ };
 
-    // The first of its checks that applies.
+    // The first of its checks that applies. That the head has vessels a book can have is asked here and below it: check 4 has told so of the head that
+    // C lends by value, of which a type would have to be made at each call.
     fn check(self, head: Head) -> Result<(), Refusal>
         requires { head.vessels ≤ most_vessels }
         ensures { outcome_number result ≡ first (checks self (of_head head)) };
