@@ -74,7 +74,7 @@ impl<'a> Sheet<'a> {
     pub fn names(&self) -> &'a [u8]
         ensures { result.now ≡ names_of self.now }
     {
-        &self.bytes[HEADER_SIZE..name_start(self.numbers.vessels)]
+        &self.bytes[HEADER_SIZE..name_start(self.header().vessels)]
     }
 
     // The movements, as the sheet has them.
@@ -82,7 +82,7 @@ impl<'a> Sheet<'a> {
     fn entries(&self) -> &'a [[u8; ENTRY_SIZE]]
         ensures { map entry_in result.now ≡ entries_read self.now }
     {
-        let (entries, _) = self.bytes[name_start(self.numbers.vessels)..].as_chunks();
+        let (entries, _) = self.bytes[name_start(self.header().vessels)..].as_chunks();
         entries
     }
 
@@ -98,7 +98,7 @@ impl<'a> Sheet<'a> {
     pub fn get(&self, index: u32) -> Option<Entry>
         ensures { MatchOption result (movements_of self.now ≤ index) (λ e. (index < movements_of self.now) × ((e ≡ entry_at self.now index) × (e.age ≤ most_age))) }
     {
-        if index < self.numbers.movements {
+        if index < self.header().movements {
             Some(self.movement(index))
         } else {
             None
