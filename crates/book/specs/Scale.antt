@@ -17,7 +17,8 @@ lift_of s t q age = record { source = s; minute = t; weight = q; age = age }
 abbrev pub tip_of : ℕ → ℕ → Tip
 tip_of d t = record { destination = d; minute = t }
 
--- "A transfer is divided": into this lift and this tip. `succession` (proofs/Succession.antt) shows that it leaves what they leave in succession.
+-- "A transfer is divided": into this lift and this tip. `second_scale` (proofs/Divided.antt) shows that it leaves what they leave, whatever lies on the
+-- book's own scale, and `succession` that these can be calls where nothing does.
 abbrev pub lift_part : Transfer → Lift
 lift_part x = lift_of x.source x.minute x.weight x.age
 
@@ -45,11 +46,11 @@ tip_checks scale g y =
     ∷ 9 if ltb TOP (g.balance y.destination + g.balance scale)
     ∷ []
 
--- A lift is a transfer onto the scale.
+-- A lift is a transfer onto a scale.
 abbrev pub lift_motion : ℕ → Lift → Motion
 lift_motion scale x = motion_of (transfer_of x.source scale x.minute x.weight x.age)
 
--- A tip moves all the weight on the scale, so that nothing is born, and does not count.
+-- A tip moves all the weight on a scale, so that nothing is born, and does not count.
 abbrev pub tip_motion : ℕ → ℕ → Tip → Motion
 tip_motion scale weight y =
     record {
