@@ -9,6 +9,8 @@ mod divided;
 mod header;
 mod listing;
 mod no_movements;
+#[cfg(feature = "library")]
+mod one_pass;
 mod order;
 mod scale;
 mod scale_books;

@@ -1,17 +1,20 @@
 //! The whole report, made both ways (`Pair::whole`): every number of vessels, full tables, numbers up
 //! to the largest weight, and the edges of its room. Its rows are held reports, its columns spread
-//! reports over every minute. And which way is which, by the time that they take.
+//! reports over every minute.
 
 use crate::desk::{engines, Desk};
 use crate::vectors::SIX;
 use calls::{Engine, Head, Piece, PLACES, TOP, VESSELS};
 use compare::{room, subjects, Pair, Random};
-use lumchaki::raw;
-use std::time::{Duration, Instant};
 
 /// A book of these vessels that fills its table. In a heavy one each piece takes a part of what its
 /// vessel is short of TOP, and the last piece of the vessel all of it.
-fn full_book(random: &mut Random, vessels: u32, places: usize, heavy: bool) -> (Head, Vec<u32>) {
+pub fn full_book(
+    random: &mut Random,
+    vessels: u32,
+    places: usize,
+    heavy: bool,
+) -> (Head, Vec<u32>) {
     let mut head = Head {
         rule: random.below(4),
         vessels,
@@ -172,38 +175,5 @@ fn six_movements() {
                 assert_eq!(report[9..], [7, 7]);
             }
         }
-    }
-}
-
-/// The least time of a hundred that such a report takes.
-fn least(whole: impl Fn(&mut [u32]) -> bool) -> Duration {
-    let mut report = vec![0; VESSELS * VESSELS];
-    let timed = |_| {
-        let begun = Instant::now();
-        assert!(whole(&mut report));
-        begun.elapsed()
-    };
-    (0..100).map(timed).min().expect("a hundred of them")
-}
-
-/// No number tells the two ways apart. Row by row a full table is gone over 64 times, which takes some
-/// thirteen times as long as once; twice is asked here, of the library's calls and of their typed face.
-#[test]
-fn one_pass_is_ahead() {
-    let (head, table) = full_book(&mut Random::new(106), VESSELS as u32, PLACES, false);
-    let (head, table) = (&head, &table[..]);
-    let times = [
-        (
-            least(|report| raw::whole(*head, table, report).number == 0),
-            least(|report| raw::whole_by_rows(*head, table, report).number == 0),
-        ),
-        (
-            least(|report| lumchaki::whole(head, table, report).is_ok()),
-            least(|report| lumchaki::whole_by_rows(head, table, report).is_ok()),
-        ),
-    ];
-    for (one_pass, by_rows) in times {
-        println!("whole, full table: {one_pass:?} in one pass, {by_rows:?} row by row");
-        assert!(2 * one_pass < by_rows);
     }
 }
