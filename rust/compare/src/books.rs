@@ -74,7 +74,7 @@ fn accepted(random: &mut Random, pieces: u32) -> u32 {
 }
 
 /// The balance of a holder: one of the vessels, or the scale.
-pub(crate) fn balance_of(head: &mut Head, holder: u32) -> &mut u32 {
+pub fn balance_of(head: &mut Head, holder: u32) -> &mut u32 {
     match head.balances.get_mut(holder as usize) {
         Some(balance) => balance,
         None => &mut head.scale,

@@ -16,6 +16,7 @@ mod scale;
 mod scale_books;
 mod scale_limits;
 mod scale_order;
+mod second_scale;
 mod sheet_order;
 mod sheets;
 mod stops;

@@ -21,7 +21,12 @@ fn least(whole: impl Fn(&mut [u32]) -> bool) -> Duration {
 /// thirteen times as long as once; twice is asked here, of the library's calls and of their typed face.
 #[test]
 fn one_pass_is_ahead() {
-    let (head, table) = full_book(&mut Random::new(106), VESSELS as u32, PLACES, false);
+    let (head, table) = full_book(
+        &mut Random::new(106),
+        VESSELS as u32,
+        PLACES,
+        [false, false],
+    );
     let (head, table) = (&head, &table[..]);
     let times = [
         (

@@ -108,7 +108,8 @@ fn divided_transfers() {
     }
 }
 
-/// The six movements of the published table, each divided: what they leave is the same.
+/// The six movements of the published table, each divided: what they leave is the same. Reports go on
+/// between the two halves, another lift does not.
 #[test]
 fn six_movements_divided() {
     for engine in engines() {
@@ -118,10 +119,8 @@ fn six_movements_divided() {
                 assert_eq!(desk.tip(movement.tip()), BARE);
                 assert_eq!(desk.lift(movement.lift()), 0);
                 assert_eq!(desk.lift(movement.lift()), LOADED);
-                assert_eq!(desk.make(movement), LOADED);
-                assert_eq!(desk.reports(), [LOADED; 4]);
-                assert_eq!(desk.tip(movement.tip()), 0);
                 assert_eq!(desk.reports(), [0; 4]);
+                assert_eq!(desk.tip(movement.tip()), 0);
             }
             let by_transfers = Desk::after(engine, rule, &SIX);
             assert_eq!(desk.pieces(), pieces, "{} rule {rule}", engine.label());
@@ -196,7 +195,7 @@ fn others_behind_the_scale() {
                 ..desk.head
             };
             desk.head.balances[..2].copy_from_slice(&[6, 2]);
-            assert_eq!(desk.reports(), [LOADED; 4]);
+            assert_eq!(desk.reports(), [0; 4]);
             assert_eq!(desk.tip(Tip::new([0, 4])), 0);
             assert_eq!(desk.pieces(), BEHIND_TIPPED, "{}", engine.label());
             assert_eq!(desk.head.balances[..3], [19, 2, 0]);
