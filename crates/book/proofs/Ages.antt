@@ -1,12 +1,11 @@
 -- THE AGE OF WHAT IS BORN. `age_zero`: a transfer of age 0 gives and leaves what the transfer without an age gave and left, on any table and any
--- head with nothing on the scale; `age_zero_weighed`: and so it is to the weigh book. `before_time`: past 5 to 8 an age above the minute is 21, whatever the balances
+-- head with nothing on the scale; `age_zero_weighed`: and so it is to the weigh book, whatever is on its scale. `before_time`: past 5 to 8 an age above the minute is 21, whatever the balances
 -- are, so also where nothing would be born. `aged`: what ages do under rules 2 and 3, where births no longer follow the order of receipt, on
 -- small cases. `one_entry`: births of one vessel at different minutes, with ages that bring them to the same minute, are one entry of the
 -- weigh book.
 -- Assumes nothing.
-use Rattle.std.proofs.Common.{◌≡◌, refl, sym, ◌∙◌, ◌≢◌, List, [], ◌∷◌, map, ℕ, zero, suc, ◌≤◌, ◌<◌, add-one, arith, lt-ltb, le-ltb}
+use Rattle.std.proofs.Common.{◌≡◌, refl, ◌∙◌, ◌≢◌, List, [], ◌∷◌, map, ℕ, zero, suc, ◌≤◌, ◌<◌, add-one, arith, lt-ltb, le-ltb}
 use native.Mathlib.Nat.{sub-zero}
-use Rattle.table.specs.Pieces.{held}
 use Rattle.table.specs.Table.{pieces_of, flat, places_of}
 use Rattle.taking.specs.Selection.{precedes}
 use Rattle.taking.specs.Taking.{take_up_to, taken}
@@ -14,7 +13,7 @@ use Rattle.refusal.specs.Numbers.{first}
 use Rattle.refusal.proofs.Numbers.{first_append}
 use Rattle.book.specs.declared.Head.{Head}
 use Rattle.book.specs.declared.Transfer.{Transfer}
-use Rattle.book.specs.Head.{the_scale, book_of, tab, balances_of, every, same, adds_up, opening}
+use Rattle.book.specs.Head.{book_of, tab, balances_of, every, same, adds_up, opening}
 use Rattle.book.specs.Motion.{Standing, takes}
 use Rattle.book.specs.Transfer.{transfer_of, transfer_checks, motion_of}
 use Rattle.book.specs.Calls.{post, meaning}
@@ -23,19 +22,14 @@ use Rattle.book.specs.WeighBook.{WeighBook, blank, of_weigh, weighed, weigh_numb
 use Rattle.book.specs.Lists.{calls_on}
 use Rattle.book.specs.Former.{unaged, former_checks, former_meaning, former_book_checks, former_number, former_on, former_weighed}
 use Rattle.book.proofs.Checks.{past_clock}
-use Rattle.book.proofs.Memory.{number_split, book_passed}
-use Rattle.book.proofs.Known.{adds_up_told}
+use Rattle.book.proofs.Memory.{number_split}
 use Rattle.book.proofs.Former.{bare_book}
 use Rattle.book.proofs.Cases.{Case, worked, seen, pieces}
 
 module _ (h : Head) (t : List ℕ) (s d m q : ℕ) (z : h.scale ≡ 0) where
-  -- on a book that adds up nothing is on the scale, so that 22 does not apply
-  own_number : first (book_checks h t) ≡ 0 → first ((meaning (post (unaged s d m q))).checks (places_of t) (book_of h t)) ≡ first ((former_meaning s d m q).checks (places_of t) (book_of h t))
+  own_number : first ((meaning (post (unaged s d m q))).checks (places_of t) (book_of h t)) ≡ first ((former_meaning s d m q).checks (places_of t) (book_of h t))
   unfolding transfer_checks takes
-  own_number e =
-      let u = adds_up_told h t (book_passed h t e).1 in
-      let bare : held the_scale (pieces_of h.pieces t) ≡ 0 = sym u.scale_is ∙ z in
-      rw (bare, le-ltb m 0 (omega arith), sub-zero)
+  own_number = rw (le-ltb m 0 (omega arith), sub-zero)
 
   same_book : first (book_checks h t) ≡ first (former_book_checks h t)
   unfolding book_checks
@@ -55,15 +49,15 @@ module _ (h : Head) (t : List ℕ) (s d m q : ℕ) (z : h.scale ≡ 0) where
       go zero = rw (sub-zero, add-one)
       go (suc n) = refl
 
-pub age_zero_weighed : (w : WeighBook) (s d m q : ℕ) → w.weight the_scale ≡ 0
+pub age_zero_weighed : (w : WeighBook) (s d m q : ℕ)
     → (weigh_number w (post (unaged s d m q)) ≡ first (former_checks (of_weigh w) s d m q)) × (weighed w (motion_of (unaged s d m q)) ≡ former_weighed w s d m q)
 unfolding weigh_number transfer_checks
-age_zero_weighed w s d m q z = (rw (z, le-ltb m 0 (omega arith)), rw (sub-zero, add-one))
+age_zero_weighed w s d m q = (rw (le-ltb m 0 (omega arith)), rw (sub-zero, add-one))
 
 -- the balances of the vessels play no part in it
-pub before_time : (g : Standing) (x : Transfer) → g.balance the_scale ≡ 0 → x.source < g.vessels → x.destination < g.vessels → x.source ≢ x.destination → x.weight ≢ 0
+pub before_time : (g : Standing) (x : Transfer) → x.source < g.vessels → x.destination < g.vessels → x.source ≢ x.destination → x.weight ≢ 0
     → g.last ≤ x.minute → x.minute < x.age → first (transfer_checks g x) ≡ 21
-before_time g x bare source_in destination_in apart weighty forward early = past_clock g x bare source_in destination_in apart weighty forward ∙ rw (lt-ltb _ _ early)
+before_time g x source_in destination_in apart weighty forward early = past_clock g x source_in destination_in apart weighty forward ∙ rw (lt-ltb _ _ early)
 
 -- the second delivery is received later, and was milled earlier
 abbrev apart : List Transfer

@@ -15,7 +15,7 @@ use Rattle.book.specs.Scale.{lift_checks, tip_checks, lift_motion, tip_motion, a
 use Rattle.book.specs.Calls.{Call, post, lift, tip, ask, tip_on, meaning}
 use Rattle.book.specs.WeighBook.{WeighBook, of_weigh, weighed, weighing, weigh_number, weigh_step, listed}
 use Rattle.book.specs.Lists.{tips_in}
-use Rattle.book.proofs.Sound.{number, takes_law, taking_number, taking_number_is, after_count, held_after, post_number, lift_number, tip_number}
+use Rattle.book.proofs.Sound.{number, takes_law, taking_number, taking_own_is, after_count, held_after, post_number, lift_number, tip_number}
 
 -- The weigh book beside the book.
 pub record Beside (b : Book) (w : WeighBook) : Type 0 where
@@ -55,7 +55,7 @@ motion_beside b rule m w r = record {
 
 -- where the table has a place, the number of what takes weight from a vessel is that of its own checks
 free_number : (places : ℕ) (b : Book) (m : Motion) (cs : List Check) (ok : T (named cs)) → length b.pieces + 1 ≤ places → taking_number places b m cs ok ≡ first cs
-free_number places b m cs ok h = grind (arith, nat_tests, taking_number_is places b m cs ok, after_count b b.rule m)
+free_number places b m cs ok h = grind (arith, nat_tests, taking_own_is places b m cs ok, after_count b b.rule m)
 
 -- the weigh book has the same number, and moves only where that is 0
 foretold : (places : ℕ) (b : Book) (w : WeighBook) (c : Call) → number places b c ≡ weigh_number w c → Foretells places b w c
@@ -74,17 +74,17 @@ walks places b w (post x) r =
       foretells = λ h k. foretold places b w (post x) (free_number places b (motion_of x) (transfer_checks (of_book b) x) tt h ∙ s);
     }
 walks places b w (lift x) r =
-    let s = ap (λ (g : Standing). first (lift_checks g x)) (standing b w r) in
+    let s = ap (λ (g : Standing). first (lift_checks the_scale g x)) (standing b w r) in
     record {
-      accepts = λ e. record { weighs = sym s ∙ (lift_number places b x e).0; beside = motion_beside b b.rule (lift_motion x) w r };
-      foretells = λ h k. foretold places b w (lift x) (free_number places b (lift_motion x) (lift_checks (of_book b) x) tt h ∙ s);
+      accepts = λ e. record { weighs = sym s ∙ (lift_number places b x e).0; beside = motion_beside b b.rule (lift_motion the_scale x) w r };
+      foretells = λ h k. foretold places b w (lift x) (free_number places b (lift_motion the_scale x) (lift_checks the_scale (of_book b) x) tt h ∙ s);
     }
 walks places b w (tip y) r =
-    let s = ap (λ (g : Standing). first (tip_checks g y)) (standing b w r) in
+    let s = ap (λ (g : Standing). first (tip_checks the_scale g y)) (standing b w r) in
     record {
       accepts = λ e. record {
         weighs = sym s ∙ tip_number places b y e;
-        beside = subst (λ (n : ℕ). Beside (book_after b as_they_lie (tip_on b y)) (weighed w (tip_motion n y))) (r.weights the_scale) (motion_beside b as_they_lie (tip_on b y) w r);
+        beside = subst (λ (n : ℕ). Beside (book_after b as_they_lie (tip_on the_scale b y)) (weighed w (tip_motion the_scale n y))) (r.weights the_scale) (motion_beside b as_they_lie (tip_on the_scale b y) w r);
       };
       foretells = λ h k. foretold places b w (tip y) (grind (arith, nat_tests, k, s));
     }

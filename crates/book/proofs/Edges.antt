@@ -43,10 +43,10 @@ abbrev beside : ℕ → ℕ → ℕ → ℕ → ℕ → ℕ → ℕ
 beside scale s d t q age = first (transfer_checks (stand scale 0) (transfer_of s d t q age))
 
 abbrev raise : ℕ → ℕ → ℕ → ℕ → ℕ → ℕ → ℕ
-raise scale accepted s t q age = first (lift_checks (stand scale accepted) (lift_of s t q age))
+raise scale accepted s t q age = first (lift_checks the_scale (stand scale accepted) (lift_of s t q age))
 
 abbrev lower : ℕ → ℕ → ℕ → ℕ
-lower scale d t = first (tip_checks (stand scale TOP) (tip_of d t))
+lower scale d t = first (tip_checks the_scale (stand scale TOP) (tip_of d t))
 
 -- the number of a report on three vessels, with so much room
 abbrev report : Report → ℕ → ℕ
@@ -134,10 +134,14 @@ edges =
     ∷ move 0 2 1 0 1 0 gives 8
     ∷ move 0 2 1 7 1 TOP gives 21
     ∷ move 0 2 1 7 TOP 0 gives 9
-    -- 22 of a transfer, before 5
-    ∷ beside 1 2 1 7 1 0 gives 22
-    ∷ beside 1 3 3 6 0 8 gives 22
-    ∷ beside TOP 2 1 7 1 0 gives 22
+    -- the same beside a loaded scale: it has no 22, and 9 is of the destination alone
+    ∷ beside 1 2 1 7 1 0 gives 0
+    ∷ beside TOP 2 1 7 1 0 gives 0
+    ∷ beside TOP 2 1 7 (TOP - 5) 0 gives 0
+    ∷ beside 1 2 1 7 (TOP - 4) 0 gives 9
+    ∷ beside TOP 3 3 6 0 8 gives 5
+    ∷ beside TOP 64 1 7 1 0 gives 5
+    ∷ beside TOP 1 64 7 1 0 gives 5
     -- checks 22, 5, 7, 8, 21, 10 of a lift, and their order; it has no 6 and no 9
     ∷ raise 0 0 2 7 TOP 7 gives 0
     ∷ raise 1 TOP 3 6 0 8 gives 22

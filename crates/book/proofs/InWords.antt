@@ -49,7 +49,7 @@ module _ (h : Head) (t : List ℕ) where
   unfolding transfer_checks
   post_fit x e = grind (arith, nat_tests, passed_own (post x) e)
 
-  pub fit_lift : (x : Lift) → number_of h t (lift x) ≡ 0 → LiftFit (of_book (book_of h t)) x
+  pub fit_lift : (x : Lift) → number_of h t (lift x) ≡ 0 → LiftFit the_scale (of_book (book_of h t)) x
   unfolding lift_checks
   fit_lift x e = grind (arith, nat_tests, passed_own (lift x) e)
 
@@ -67,12 +67,12 @@ module _ (h : Head) (t : List ℕ) where
       let apart = (post_fit x e).apart in
       rw (e, taken_in_table h.rule (motion_of x).moves ps (λ q. apart (sym q))) (refl, refl)
 
-  pub lift_in_words : (x : Lift) → (call_on h t (lift x)).number ≡ 0 → InWords (lift x) (lift_motion x)
+  pub lift_in_words : (x : Lift) → (call_on h t (lift x)).number ≡ 0 → InWords (lift x) (lift_motion the_scale x)
   unfolding call_on takes
   lift_in_words x z =
       let e = sym (call_number h t (lift x)) ∙ z in
       let k = (accepted_book (lift x) e).vessels_fit in
-      rw (e, taken_in_table h.rule (lift_motion x).moves ps (λ q. omega (arith, (fit_lift x e).source_in))) (refl, refl)
+      rw (e, taken_in_table h.rule (lift_motion the_scale x).moves ps (λ q. omega (arith, (fit_lift x e).source_in))) (refl, refl)
 
   pub tip_in_words : (y : Tip) → (call_on h t (tip y)).number ≡ 0
       → (call_on h t (tip y)).table ≡ lay (elsewhere the_scale ps ++ map (hand_to y.destination) (held_by the_scale ps)) t
@@ -80,7 +80,7 @@ module _ (h : Head) (t : List ℕ) where
   tip_in_words y z =
       let e = sym (call_number h t (tip y)) ∙ z in
       let weighty = all_map (λ p f. f.weighty) (accepted_book (tip y) e).sound in
-      rw (e, sweeps (tip_on (book_of h t) y).moves ps weighty refl) (simp append-nil)
+      rw (e, sweeps (tip_on the_scale (book_of h t) y).moves ps weighty refl) (simp append-nil)
 
   -- "Each accepted report writes exactly the weights that document 01 names for it", and "numbers after these remain".
   pub report_in_words : (q : Report) (room : List ℕ) → (call_on h t (ask q room)).number ≡ 0

@@ -13,7 +13,9 @@ pub mod Cases
 pub mod Marked
 pub mod Ages
 pub mod InWords
+pub mod Divided
 pub mod Succession
 pub mod Scale
+pub mod Load
 pub mod Edges
 pub mod ReportLaws

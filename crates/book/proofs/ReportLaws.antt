@@ -1,6 +1,6 @@
 -- What the definitions of the reports say together, in document 01's words: how many numbers each has, a held row sums to what the vessel holds,
--- whole is made of held rows, spread over every minute is a column of whole, and spans that meet add up. So a definition that is changed alone
--- falls out with the others. Edges.antt has each check of a report at its edge; where they pass, the room is long enough.
+-- whole is made of held rows, spread over every minute is a column of whole, spans that meet add up, and what is on the scale is in none of them. So a
+-- definition that is changed alone falls out with the others. Edges.antt has each check of a report at its edge; where they pass, the room is long enough.
 -- Assumes nothing.
 use Rattle.std.proofs.Common.{◌≡◌, refl, sym, ap, ◌∙◌, Bool, true, ◌&&◌, List, [], ◌∷◌, ℕ, zero, suc, ◌+◌, ◌*◌, ◌≤◌, ◌<◌, add-zero, zero-mul, suc-mul, not-suc-le-zero, le_of_suc-le-suc, arith, eqb, length, get_or, length-append, get_or-append-add}
 use mathlib.Core.List.{foldr}
@@ -10,13 +10,15 @@ use Rattle.table.specs.declared.Piece.{Piece}
 use Rattle.table.specs.Pieces.{only, sum, held, All, done, also}
 use Rattle.table.specs.Table.{pieces_of}
 use Rattle.table.proofs.Pieces.{all_map}
+use Rattle.taking.specs.Sweeping.{elsewhere}
+use Rattle.taking.proofs.HeldBy.{sum_elsewhere}
 use Rattle.refusal.specs.Numbers.{TOP, first}
 use Rattle.book.specs.declared.Head.{Head}
 use Rattle.book.specs.declared.Report.{Report}
 use Rattle.book.specs.declared.Report.TheVariants.{Held, Spread, Whole}
-use Rattle.book.specs.Head.{balance_at, tab, adds_up}
+use Rattle.book.specs.Head.{most_vessels, the_scale, balance_at, tab, adds_up}
 use Rattle.book.specs.Reports.{from_origin, held_row, born_within, rows, report_row, report_checks}
-use Rattle.book.proofs.BalanceLaws.{length_tab, get_d_tab}
+use Rattle.book.proofs.BalanceLaws.{length_tab, get_d_tab, tab_same}
 use Rattle.book.proofs.Known.{adds_up_told, adds_balance}
 
 -- a number of a row
@@ -111,6 +113,23 @@ pub spread_spans : (size o v from m to : ℕ) (ps : List Piece) → v < size →
 spread_spans size o v from m to ps hv h g =
     rw (row_at (λ u. sum (born_within o from m u) ps) size v hv, row_at (λ u. sum (born_within o (m + 1) to u) ps) size v hv, row_at (λ u. sum (born_within o from to u) ps) size v hv)
     (spans o v from m to h g ps)
+
+-- WHAT IS ON THE SCALE "is in no vessel, and no vessel's report includes it": a report is that of the other pieces.
+module _ (size : ℕ) (few : size ≤ most_vessels) (ps : List Piece) where
+  held_unloaded : (v : ℕ) → v < size → held_row size v (elsewhere the_scale ps) ≡ held_row size v ps
+  held_unloaded v h = tab_same _ _ 0 0 size (λ u g. sum_elsewhere the_scale (from_origin v (0 + u)) (λ o b. grind (arith, nat_tests)) ps)
+
+  rows_unloaded : (v n : ℕ) → v + n ≤ size → rows size v n (elsewhere the_scale ps) ≡ rows size v n ps
+  unfolding rows
+  rows_unloaded v zero h = refl
+  rows_unloaded v (suc n) h = rw (held_unloaded v (omega arith), rows_unloaded (suc v) n (omega arith)) refl
+
+  pub row_unloaded : (room : ℕ) (q : Report) → first (report_checks size room q) ≡ 0 → report_row size (elsewhere the_scale ps) q ≡ report_row size ps q
+  unfolding report_checks
+  row_unloaded room (Held v) e = held_unloaded v (grind (arith, nat_tests))
+  row_unloaded room (Spread u from to) e =
+      tab_same _ _ 0 0 size (λ v g. sum_elsewhere the_scale (born_within u from to (0 + v)) (λ o b. grind (arith, nat_tests)) ps)
+  row_unloaded room Whole e = rows_unloaded 0 size (omega arith)
 
 -- the room is long enough where the checks pass
 module _ (size room : ℕ) (asked : Report) where

@@ -1,25 +1,23 @@
--- THE SCALE. `loaded_refuses`: while weight is on the scale every transfer, lift and report is refused with 22, whatever else is amiss with it;
--- `bare_refuses`: while none is, every tip with 23. `post_scale`: a transfer leaves the scale as it was. `tip_weighed`: what a tip is to the weigh
+-- THE SCALE. `bare_refuses`: while nothing is on it, every tip is refused with 23, whatever else is amiss with it. (Load.antt has what is true while
+-- something is.) `post_scale`: a transfer leaves its weight as it was. `tip_weighed`: what a tip is to the weigh
 -- book, in document 02's words. `divided`: the six movements, each as a lift and a tip, leave K1 to K4's pieces, and what else lifts and tips
--- leave, on small cases; `tip_behind`: what was on the scale ends behind all others, in the order it lay, whatever the rule.
+-- leave, on small cases.
 -- Assumes nothing.
-use Rattle.std.proofs.Common.{◌≡◌, refl, ◌∙◌, ◌≢◌, List, [], ◌∷◌, ◌++◌, map, ℕ, ◌+◌, ◌<◌, arith, eqb, take, replicate}
+use Rattle.std.proofs.Common.{◌≡◌, refl, ◌∙◌, ◌≢◌, List, [], ◌∷◌, map, ℕ, ◌+◌, arith, eqb}
 use Rattle.std.proofs.lemmas.Bool.Decides.{nat_tests}
-use Rattle.table.specs.Pieces.{only, held}
+use Rattle.table.specs.Pieces.{only}
 use Rattle.table.specs.Table.{pieces_of, flat, places_of}
 use Rattle.taking.specs.Selection.{precedes}
 use Rattle.taking.specs.Taking.{take_up_to, taken}
 use Rattle.refusal.specs.Numbers.{first}
 use Rattle.book.specs.declared.Head.{Head}
 use Rattle.book.specs.declared.Transfer.{Transfer}
-use Rattle.book.specs.declared.Lift.{Lift}
 use Rattle.book.specs.declared.Tip.{Tip}
-use Rattle.book.specs.declared.Report.{Report}
 use Rattle.book.specs.Head.{the_scale, book_of, tab, balances_of, every, same, adds_up, opening}
 use Rattle.book.specs.Motion.{takes}
 use Rattle.book.specs.Transfer.{transfer_of, transfer_checks, motion_of}
 use Rattle.book.specs.Scale.{lift_of, tip_of, lift_part, tip_part, lift_checks, tip_checks, tip_motion}
-use Rattle.book.specs.Calls.{Call, post, lift, tip, ask}
+use Rattle.book.specs.Calls.{Call, post, lift, tip}
 use Rattle.book.specs.Memory.{book_checks, number_of, call_on}
 use Rattle.book.specs.WeighBook.{WeighBook, weighed}
 use Rattle.book.specs.Lists.{Journal, calls_on, numbers}
@@ -31,20 +29,11 @@ use Rattle.book.proofs.Cases.{Case, called, seen, pieces}
 use Rattle.book.proofs.Marked.{six}
 
 -- on a head and a table that checks 1 and 4 let pass
-module _ (h : Head) (t : List ℕ) (e : first (book_checks h t) ≡ 0) where
-  scale_is : h.scale ≡ held the_scale (pieces_of h.pieces t)
-  scale_is = (adds_up_told h t (book_passed h t e).1).scale_is
-
-  pub loaded_refuses : 0 < h.scale → (x : Transfer) (l : Lift) (q : Report) (room : List ℕ)
-      → (number_of h t (post x) ≡ 22) × (number_of h t (lift l) ≡ 22) × (number_of h t (ask q room) ≡ 22)
-  unfolding transfer_checks lift_checks
-  loaded_refuses u x l q room =
-      let own = λ (c : Call). on_number h t c (first (book_checks h t)) refl e in
-      grind (arith, nat_tests, scale_is, own (post x), own (lift l), own (ask q room))
-
-  pub bare_refuses : h.scale ≡ 0 → (y : Tip) → number_of h t (tip y) ≡ 23
-  unfolding tip_checks
-  bare_refuses u y = on_number h t (tip y) _ refl e ∙ rw (← scale_is, u)
+pub bare_refuses : (h : Head) (t : List ℕ) → first (book_checks h t) ≡ 0 → h.scale ≡ 0 → (y : Tip) → number_of h t (tip y) ≡ 23
+unfolding tip_checks
+bare_refuses h t e u y =
+    let a = adds_up_told h t (book_passed h t e).1 in
+    on_number h t (tip y) _ refl e ∙ rw (← a.scale_is, u)
 
 -- a transfer leaves the scale as it was
 pub post_scale : (h : Head) (t : List ℕ) (x : Transfer) → (call_on h t (post x)).head.scale ≡ h.scale
@@ -59,7 +48,7 @@ pub record TipWeighed (w : WeighBook) (y : Tip) (w' : WeighBook) : Type 0 where
   pub last : w'.last ≡ y.minute
   pub accepted : w'.accepted ≡ w.accepted
 
-pub tip_weighed : (w : WeighBook) (y : Tip) → y.destination ≢ the_scale → TipWeighed w y (weighed w (tip_motion (w.weight the_scale) y))
+pub tip_weighed : (w : WeighBook) (y : Tip) → y.destination ≢ the_scale → TipWeighed w y (weighed w (tip_motion the_scale (w.weight the_scale) y))
 tip_weighed w y ne = grind (arith, nat_tests)
 
 -- a transfer as its lift and its tip
@@ -80,10 +69,10 @@ cases =
     ∷ called 0 (both six) pieces (0 ∷ 2 ∷ 3 ∷ 2 ∷ 2 ∷ 1 ∷ 5 ∷ 4 ∷ 1 ∷ 1 ∷ 1 ∷ 2 ∷ 0 ∷ 1 ∷ 1 ∷ 1 ∷ 2 ∷ [])
     ∷ called 1 (both six) pieces (0 ∷ 1 ∷ 1 ∷ 2 ∷ 2 ∷ 1 ∷ 1 ∷ 1 ∷ 2 ∷ 2 ∷ 3 ∷ 2 ∷ 2 ∷ 1 ∷ 5 ∷ 1 ∷ 1 ∷ 1 ∷ 5 ∷ 2 ∷ 0 ∷ 1 ∷ 5 ∷ 1 ∷ 0 ∷ [])
     ∷ called 3 (both six) pieces (0 ∷ 1 ∷ 1 ∷ 2 ∷ 2 ∷ 2 ∷ 3 ∷ 2 ∷ 2 ∷ 1 ∷ 1 ∷ 1 ∷ 2 ∷ 1 ∷ 5 ∷ 1 ∷ 1 ∷ 1 ∷ 5 ∷ 2 ∷ 0 ∷ 1 ∷ 5 ∷ 1 ∷ 0 ∷ [])
-    -- a lift: born at its source, on the scale; then all but its tip is refused with 22, and after that the tip with 23
+    -- a lift: born at its source, on the scale; then another lift is refused with 22 and a transfer is not, and after the tip another tip with 23
     ∷ called 0 (lift (lift_of 1 5 3 2) ∷ []) held_up (3 ∷ 5 ∷ 1 ∷ 64 ∷ 1 ∷ 3 ∷ 3 ∷ 0 ∷ [])
     ∷ called 0 (tip (tip_of 0 5) ∷ lift (lift_of 1 5 3 2) ∷ lift (lift_of 9 0 0 0) ∷ post (transfer_of 1 2 5 1 0) ∷ tip (tip_of 2 4) ∷ tip (tip_of 2 6) ∷ tip (tip_of 2 6) ∷ []) answers
-    (23 ∷ 0 ∷ 22 ∷ 22 ∷ 8 ∷ 0 ∷ 23 ∷ [])
+    (23 ∷ 0 ∷ 22 ∷ 0 ∷ 8 ∷ 0 ∷ 23 ∷ [])
     -- back to where it came from: the first lot ends behind the second, and the tip sets the last minute and is not counted
     ∷ called 0 (post (transfer_of 0 1 1 2 0) ∷ post (transfer_of 2 1 2 3 0) ∷ lift (lift_of 1 3 2 0) ∷ tip (tip_of 1 7) ∷ []) held_up (0 ∷ 7 ∷ 3 ∷ 1 ∷ 2 ∷ 2 ∷ 3 ∷ 1 ∷ 0 ∷ 1 ∷ 2 ∷ 1 ∷ [])
     ∷ []
@@ -91,21 +80,3 @@ cases =
 pub divided : map seen cases ≡ map (λ c. c.wanted) cases
 unfolding cases calls_on call_on number_of book_checks adds_up every same balances_of tab places_of pieces_of flat opening transfer_checks lift_checks tip_checks takes taken take_up_to precedes
 divided = refl
-
--- a book of three vessels under a rule: two pieces on the scale, each with a piece of another behind it
-abbrev laden : ℕ → Head
-laden rule = record { rule = rule; vessels = 3; pieces = 4; last = 5; accepted = 9; balances = 3 ∷ 5 ∷ replicate 62 0; scale = 6 }
-
-abbrev lying : List ℕ
-lying = 64 ∷ 0 ∷ 5 ∷ 2 ∷ 1 ∷ 2 ∷ 1 ∷ 5 ∷ 64 ∷ 2 ∷ 3 ∷ 4 ∷ 0 ∷ 1 ∷ 2 ∷ 3 ∷ 7 ∷ 7 ∷ []
-
--- the table, and of the head the scale, the last minute, the count and two balances
-abbrev tipped_into_1 : ℕ → List ℕ
-tipped_into_1 rule = let o = call_on (laden rule) lying (tip (tip_of 1 9)) in o.table ++ (o.head.scale ∷ o.head.last ∷ o.head.accepted ∷ take 2 o.head.balances)
-
-abbrev behind : List ℕ
-behind = 1 ∷ 2 ∷ 1 ∷ 5 ∷ 0 ∷ 1 ∷ 2 ∷ 3 ∷ 1 ∷ 0 ∷ 5 ∷ 2 ∷ 1 ∷ 2 ∷ 3 ∷ 4 ∷ 7 ∷ 7 ∷ 0 ∷ 9 ∷ 9 ∷ 3 ∷ 11 ∷ []
-
-pub tip_behind : map tipped_into_1 (0 ∷ 1 ∷ 2 ∷ 3 ∷ []) ≡ behind ∷ behind ∷ behind ∷ behind ∷ []
-unfolding call_on number_of book_checks adds_up every same balances_of tab places_of pieces_of flat tip_checks takes taken take_up_to precedes
-tip_behind = refl

@@ -2,7 +2,7 @@
 -- that it leaves, and the count of pieces and of accepted transfers goes on as document 01 says. What a motion of pieces leaves is shown once,
 -- for transfer, lift and tip; each kind of call has one clause of `keeps`.
 -- Assumes nothing.
-use Rattle.std.proofs.Common.{◌≡◌, refl, sym, ap, ◌↔◌, true, List, [], ◌∷◌, ◌++◌, ℕ, suc, ◌+◌, ◌-◌, ◌*◌, ◌≤◌, ◌<◌, min, arith, T, ltb, eqb, length, drop, length-append, length-drop}
+use Rattle.std.proofs.Common.{◌≡◌, refl, sym, ◌↔◌, true, List, [], ◌∷◌, ◌++◌, ℕ, suc, ◌+◌, ◌-◌, ◌*◌, ◌≤◌, ◌<◌, min, arith, T, ltb, eqb, length, drop, length-append, length-drop}
 use Rattle.std.proofs.lemmas.Bool.Decides.{nat_tests}
 use Rattle.table.specs.declared.Piece.{Piece}
 use Rattle.table.specs.Pieces.{only, held, All}
@@ -16,16 +16,19 @@ use Rattle.book.specs.declared.Transfer.{Transfer}
 use Rattle.book.specs.declared.Lift.{Lift}
 use Rattle.book.specs.declared.Tip.{Tip}
 use Rattle.book.specs.declared.Motion.{Motion}
-use Rattle.book.specs.Head.{Book, last_rule, most_vessels, is_holder}
+use Rattle.book.specs.Head.{Book, the_scale, last_rule, most_vessels, is_holder}
 use Rattle.book.specs.Motion.{of_book, takes, pieces_after, book_after}
 use Rattle.book.specs.Transfer.{transfer_checks, motion_of}
 use Rattle.book.specs.Scale.{lift_checks, tip_checks, lift_motion, as_they_lie}
 use Rattle.book.specs.Calls.{Call, post, lift, tip, ask, answer_of, even_of, tip_on, Meaning, taking, meaning}
 use Rattle.book.proofs.Checks.{fit, lift_fit, tip_fit}
 
--- a call's number on a book that adds up
+-- the number that a call's own checks give it on a book, and its number on a book that adds up
+abbrev pub own : ℕ → Book → Meaning → ℕ
+own places b m = first (m.checks places b)
+
 unfoldable pub number : ℕ → Book → Call → ℕ
-number places b c = first (1 if eqb places 0 ∷ (meaning c).checks places b)
+number places b c = or_else (1 if eqb places 0) (own places b (meaning c))
 
 -- A book that adds up; its balances are the sums.
 pub record SoundPiece (size last : ℕ) (p : Piece) : Type 0 where
@@ -121,32 +124,38 @@ module _ (places : ℕ) (b : Book) (m : Motion) (cs : List Check) (ok : T (named
   abbrev after : List Piece
   after = pieces_after b b.rule m
 
-  abbrev pub taking_number : ℕ
-  taking_number = first (1 if eqb places 0 ∷ (cs ++ (11 if ltb places (length after) ∷ [])))
+  abbrev pub taking_own : ℕ
+  taking_own = first (cs ++ (11 if ltb places (length after) ∷ []))
 
-  pub taking_number_is : taking_number ≡ or_else (1 if eqb places 0) (if_zero (first cs) (or_else (11 if ltb places (length after)) 0) (first cs))
-  taking_number_is = ap (or_else (1 if eqb places 0)) (first_append cs (11 if ltb places (length after) ∷ []) ok)
+  pub taking_own_is : taking_own ≡ if_zero (first cs) (or_else (11 if ltb places (length after)) 0) (first cs)
+  taking_own_is = first_append cs (11 if ltb places (length after) ∷ []) ok
+
+  pub accepted_own : taking_own ≡ 0 → (first cs ≡ 0) × (length after ≤ places)
+  accepted_own h = grind (arith, nat_tests, taking_own_is)
+
+  abbrev pub taking_number : ℕ
+  taking_number = or_else (1 if eqb places 0) taking_own
 
   pub accepted_number : taking_number ≡ 0 → (first cs ≡ 0) × (length after ≤ places)
-  accepted_number h = grind (arith, nat_tests, taking_number_is)
+  accepted_number h = accepted_own (grind arith)
 
--- what a tip takes: all that is on the scale, so that nothing is split or born
-pub tip_whole : (b : Book) (y : Tip) → (takes b as_they_lie (tip_on b y)).split + (takes b as_they_lie (tip_on b y)).born ≡ 0
-tip_whole b y = all_taken b as_they_lie (tip_on b y) refl
+-- what a tip takes: all that is on its scale, so that nothing is split or born
+pub tip_whole : (scale : ℕ) (b : Book) (y : Tip) → (takes b as_they_lie (tip_on scale b y)).split + (takes b as_they_lie (tip_on scale b y)).born ≡ 0
+tip_whole scale b y = all_taken b as_they_lie (tip_on scale b y) refl
 
-pub tip_length : (b : Book) (y : Tip) → length (pieces_after b as_they_lie (tip_on b y)) ≡ length b.pieces
-tip_length b y = omega (arith, after_length b as_they_lie (tip_on b y), tip_whole b y)
+pub tip_length : (scale : ℕ) (b : Book) (y : Tip) → length (pieces_after b as_they_lie (tip_on scale b y)) ≡ length b.pieces
+tip_length scale b y = omega (arith, after_length b as_they_lie (tip_on scale b y), tip_whole scale b y)
 
 -- each call's own checks let a motion through that is sane
 module _ (b : Book) where
   pub post_sane : (x : Transfer) → first (transfer_checks (of_book b) x) ≡ 0 → Sane b b.rule (motion_of x)
   post_sane x e = grind (arith, nat_tests, fit (of_book b) x, (takes_law b b.rule (motion_of x)).one_more)
 
-  pub lift_sane : (x : Lift) → first (lift_checks (of_book b) x) ≡ 0 → Sane b b.rule (lift_motion x)
-  lift_sane x e = grind (arith, nat_tests, lift_fit (of_book b) x, (takes_law b b.rule (lift_motion x)).one_more)
+  pub lift_sane : (x : Lift) → first (lift_checks the_scale (of_book b) x) ≡ 0 → Sane b b.rule (lift_motion the_scale x)
+  lift_sane x e = grind (arith, nat_tests, lift_fit the_scale (of_book b) x, (takes_law b b.rule (lift_motion the_scale x)).one_more)
 
-  pub tip_sane : (y : Tip) → first (tip_checks (of_book b) y) ≡ 0 → Sane b as_they_lie (tip_on b y)
-  tip_sane y e = grind (arith, nat_tests, tip_fit (of_book b) y, tip_whole b y)
+  pub tip_sane : (y : Tip) → first (tip_checks the_scale (of_book b) y) ≡ 0 → Sane b as_they_lie (tip_on the_scale b y)
+  tip_sane y e = grind (arith, nat_tests, tip_fit the_scale (of_book b) y, tip_whole the_scale b y)
 
 -- the number of a transfer and of a lift, by its parts
 pub post_number : (places : ℕ) (b : Book) (x : Transfer) → number places b (post x) ≡ 0
@@ -155,11 +164,11 @@ unfolding number transfer_checks
 post_number places b x e = accepted_number places b (motion_of x) (transfer_checks (of_book b) x) tt e
 
 pub lift_number : (places : ℕ) (b : Book) (x : Lift) → number places b (lift x) ≡ 0
-    → (first (lift_checks (of_book b) x) ≡ 0) × (length (pieces_after b b.rule (lift_motion x)) ≤ places)
+    → (first (lift_checks the_scale (of_book b) x) ≡ 0) × (length (pieces_after b b.rule (lift_motion the_scale x)) ≤ places)
 unfolding number lift_checks
-lift_number places b x e = accepted_number places b (lift_motion x) (lift_checks (of_book b) x) tt e
+lift_number places b x e = accepted_number places b (lift_motion the_scale x) (lift_checks the_scale (of_book b) x) tt e
 
-pub tip_number : (places : ℕ) (b : Book) (y : Tip) → number places b (tip y) ≡ 0 → first (tip_checks (of_book b) y) ≡ 0
+pub tip_number : (places : ℕ) (b : Book) (y : Tip) → number places b (tip y) ≡ 0 → first (tip_checks the_scale (of_book b) y) ≡ 0
 unfolding number
 tip_number places b y e = grind arith
 
@@ -177,12 +186,12 @@ taking_keeps places b checks m f one o h = record {
 pub keeps : (places : ℕ) (b : Book) (c : Call) → SoundBook places b → number places b c ≡ 0 → Keeps places b (meaning c)
 keeps places b (ask q room) o e = record { sound = o; lies = λ t l. l; long = λ t l. refl; count = omega arith; tally = omega arith }
 keeps places b (post x) o e = let a = post_number places b x e in taking_keeps places b _ (motion_of x) (post_sane b x a.0) refl o a.1
-keeps places b (lift x) o e = let a = lift_number places b x e in taking_keeps places b _ (lift_motion x) (lift_sane b x a.0) refl o a.1
+keeps places b (lift x) o e = let a = lift_number places b x e in taking_keeps places b _ (lift_motion the_scale x) (lift_sane b x a.0) refl o a.1
 keeps places b (tip y) o e =
-    let same = tip_length b y in
-    let h : length (pieces_after b as_they_lie (tip_on b y)) ≤ places = rw same o.fits in
+    let same = tip_length the_scale b y in
+    let h : length (pieces_after b as_they_lie (tip_on the_scale b y)) ≤ places = rw same o.fits in
     record {
-      sound = motion_sound b as_they_lie (tip_on b y) (tip_sane b y (tip_number places b y e)) places o h;
+      sound = motion_sound b as_they_lie (tip_on the_scale b y) (tip_sane b y (tip_number places b y e)) places o h;
       lies = λ t l. laid places b.pieces _ t h l;
       long = λ t l. laid_long places b.pieces _ t h l;
       count = omega arith;

@@ -11,7 +11,7 @@ use Rattle.book.specs.declared.Tip.{Tip}
 use Rattle.book.specs.declared.Motion.{Motion}
 use Rattle.book.specs.declared.Report.{Report}
 use Rattle.book.specs.Head.{Book, the_scale}
-use Rattle.book.specs.Motion.{of_book, loaded, takes, pieces_after, book_after}
+use Rattle.book.specs.Motion.{of_book, takes, pieces_after, book_after}
 use Rattle.book.specs.Transfer.{transfer_checks, motion_of}
 use Rattle.book.specs.Scale.{lift_checks, tip_checks, lift_motion, tip_motion, as_they_lie}
 use Rattle.book.specs.Reports.{report_row, report_checks, onto}
@@ -70,27 +70,33 @@ taking checks m =
       even = λ b. even_of (answer_of (takes b b.rule m));
     }
 
--- the tip y of a book, which moves all that lies on its scale
-abbrev pub tip_on : Book → Tip → Motion
-tip_on b y = tip_motion (held the_scale b.pieces) y
+-- A lift onto a scale, and its tip, which moves all that lies there.
+abbrev pub lifting : ℕ → Lift → Meaning
+lifting scale x = taking (λ b. lift_checks scale (of_book b) x) (lift_motion scale x)
 
-abbrev pub meaning : Call → Meaning
-meaning (post x) = taking (λ b. transfer_checks (of_book b) x) (motion_of x)
-meaning (lift x) = taking (λ b. lift_checks (of_book b) x) (lift_motion x)
-meaning (tip y) =
+abbrev pub tip_on : ℕ → Book → Tip → Motion
+tip_on scale b y = tip_motion scale (held scale b.pieces) y
+
+abbrev pub tipping : ℕ → Tip → Meaning
+tipping scale y =
     record {
-      checks = λ places b. tip_checks (of_book b) y;
+      checks = λ places b. tip_checks scale (of_book b) y;
       answer = λ b. no_answer;
-      next = λ b. book_after b as_they_lie (tip_on b y);
-      table = λ b. lay (pieces_after b as_they_lie (tip_on b y));
+      next = λ b. book_after b as_they_lie (tip_on scale b y);
+      table = λ b. lay (pieces_after b as_they_lie (tip_on scale b y));
       room = λ b. [];
       lent = [];
       counts = 0;
       even = λ b. 0;
     }
+
+abbrev pub meaning : Call → Meaning
+meaning (post x) = taking (λ b. transfer_checks (of_book b) x) (motion_of x)
+meaning (lift x) = lifting the_scale x
+meaning (tip y) = tipping the_scale y
 meaning (ask q room) =
     record {
-      checks = λ places b. loaded (of_book b) ∷ report_checks b.vessels (length room) q;
+      checks = λ places b. report_checks b.vessels (length room) q;
       answer = λ b. no_answer;
       next = λ b. b;
       table = λ b t. t;

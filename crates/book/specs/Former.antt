@@ -1,7 +1,7 @@
--- A transfer of document 01, as it was before it had an age and there was a scale: source s, destination d, minute t, weight q. There are no
--- checks 21 and 22, what is born has birth t, and a piece that lies in no vessel puts the book off. "Age 0 is the former meaning":
--- `age_zero` and `age_zero_weighed` (proofs/Ages.antt) show that where no weight is on the scale a transfer of age 0 is this one, on a book
--- and to the weigh book.
+-- A transfer of document 01, as it was before it had an age and there was a scale: source s, destination d, minute t, weight q. There is no
+-- check 21, what is born has birth t, and a piece that lies in no vessel puts the book off. "Age 0 is the former meaning":
+-- `age_zero` and `age_zero_weighed` (proofs/Ages.antt) show that a transfer of age 0 is this one, on a book with no weight on the scale, and to
+-- the weigh book.
 -- Definitions only. Assumes nothing.
 use Rattle.std.specs.Prelude.{Bool, ◌&&◌, not, List, [], ◌∷◌, ◌++◌, ℕ, suc, ◌+◌, ◌-◌, leb, ltb, eqb, length}
 use Rattle.table.specs.Pieces.{only}

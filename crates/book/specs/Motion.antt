@@ -1,13 +1,12 @@
 -- What calls look at, and what transfer, lift and tip do to a book: pieces are taken from a holder and handed to another.
 -- Definitions only. Assumes nothing.
-use Rattle.std.specs.Prelude.{List, ℕ, ◌+◌, ltb}
+use Rattle.std.specs.Prelude.{List, ℕ, ◌+◌}
 use Rattle.table.specs.declared.Piece.{Piece}
 use Rattle.table.specs.Pieces.{held}
 use Rattle.taking.specs.Taking.{Taken, taken, handed}
-use Rattle.refusal.specs.Numbers.{Check, ◌if◌}
 use Rattle.book.specs.declared.Head.{Head}
 use Rattle.book.specs.declared.Motion.{Motion}
-use Rattle.book.specs.Head.{Book, the_scale, balance_at}
+use Rattle.book.specs.Head.{Book, balance_at}
 
 -- What checks look at. A book, its head and the weigh book each have it, and they make the same checks.
 pub record Standing : Type 0 where
@@ -21,10 +20,6 @@ of_book b = record { vessels = b.vessels; balance = λ v. held v b.pieces; last 
 
 abbrev pub of_head : Head → Standing
 of_head h = record { vessels = h.vessels; balance = balance_at h; last = h.last; accepted = h.accepted }
-
--- "22 'scale loaded', for lift, transfer and reports, after 4"
-abbrev pub loaded : Standing → Check
-loaded g = 22 if ltb 0 (g.balance the_scale)
 
 -- What a motion (the record `Motion` of src/lib.rt) takes from the book where pieces are picked by a rule, and the pieces afterwards.
 unfoldable pub takes : Book → ℕ → Motion → Taken

@@ -1,4 +1,5 @@
--- "Reports": held, spread and whole. What each writes, and their checks.
+-- "Reports": held, spread and whole. What each writes, and their checks. Every row is of vessels: "pieces on [the scale] are in no vessel, and no
+-- vessel's report includes them".
 -- Definitions only. Assumes nothing.
 use Rattle.std.specs.Prelude.{◌&&◌, List, [], ◌∷◌, ◌++◌, ℕ, zero, suc, ◌*◌, leb, ltb, eqb, length, drop}
 use Rattle.table.specs.declared.Piece.{Piece}

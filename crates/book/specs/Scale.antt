@@ -1,4 +1,6 @@
 -- "Lift and tip": their checks, and the motions that they are. "Lift takes weight from s onto the scale, tip empties the whole scale into d."
+-- A scale is told by its number. A book has one, `the_scale`, and every lift and tip is of that; what "a second, empty scale" would do is said with
+-- another number.
 -- Definitions only. Assumes nothing.
 use Rattle.std.specs.Prelude.{List, [], ◌∷◌, ℕ, ◌+◌, leb, ltb, eqb}
 use Rattle.refusal.specs.Numbers.{TOP, Check, ◌if◌}
@@ -6,8 +8,7 @@ use Rattle.book.specs.declared.Transfer.{Transfer}
 use Rattle.book.specs.declared.Lift.{Lift}
 use Rattle.book.specs.declared.Tip.{Tip}
 use Rattle.book.specs.declared.Motion.{Motion}
-use Rattle.book.specs.Head.{the_scale}
-use Rattle.book.specs.Motion.{Standing, loaded}
+use Rattle.book.specs.Motion.{Standing}
 use Rattle.book.specs.Transfer.{transfer_of, motion_of}
 
 abbrev pub lift_of : ℕ → ℕ → ℕ → ℕ → Lift
@@ -23,10 +24,11 @@ lift_part x = lift_of x.source x.minute x.weight x.age
 abbrev pub tip_part : Transfer → Tip
 tip_part x = tip_of x.destination x.minute
 
--- "Lift checks 1, 4, 5, 7, 8, 21, 10, 11", and 22 after 4. The scale is bare then, so that it has room for any weight.
-unfoldable pub lift_checks : Standing → Lift → List Check
-lift_checks g x =
-    loaded g
+-- "Lift checks 1, 4, 5, 7, 8, 21, 10, 11", and "22 'scale loaded'", which "is left for lift alone", after 4. The scale is bare then, so that it
+-- has room for any weight.
+unfoldable pub lift_checks : ℕ → Standing → Lift → List Check
+lift_checks scale g x =
+    22 if ltb 0 (g.balance scale)
     ∷ 5 if leb g.vessels x.source
     ∷ 7 if eqb x.weight 0
     ∷ 8 if ltb x.minute g.last
@@ -35,23 +37,23 @@ lift_checks g x =
     ∷ []
 
 -- "tip checks 1, 4, 5, 8, 9", and "23 'scale bare' .. after 4". 9 is of all that lies on the scale.
-unfoldable pub tip_checks : Standing → Tip → List Check
-tip_checks g y =
-    23 if eqb (g.balance the_scale) 0
+unfoldable pub tip_checks : ℕ → Standing → Tip → List Check
+tip_checks scale g y =
+    23 if eqb (g.balance scale) 0
     ∷ 5 if leb g.vessels y.destination
     ∷ 8 if ltb y.minute g.last
-    ∷ 9 if ltb TOP (g.balance y.destination + g.balance the_scale)
+    ∷ 9 if ltb TOP (g.balance y.destination + g.balance scale)
     ∷ []
 
 -- A lift is a transfer onto the scale.
-abbrev pub lift_motion : Lift → Motion
-lift_motion x = motion_of (transfer_of x.source the_scale x.minute x.weight x.age)
+abbrev pub lift_motion : ℕ → Lift → Motion
+lift_motion scale x = motion_of (transfer_of x.source scale x.minute x.weight x.age)
 
 -- A tip moves all the weight on the scale, so that nothing is born, and does not count.
-abbrev pub tip_motion : ℕ → Tip → Motion
-tip_motion weight y =
+abbrev pub tip_motion : ℕ → ℕ → Tip → Motion
+tip_motion scale weight y =
     record {
-      moves = record { source = the_scale; destination = y.destination; birth = y.minute; weight = weight };
+      moves = record { source = scale; destination = y.destination; birth = y.minute; weight = weight };
       minute = y.minute;
       counts = 0;
     }

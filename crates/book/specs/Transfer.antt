@@ -4,7 +4,7 @@ use Rattle.std.specs.Prelude.{List, [], ◌∷◌, ℕ, ◌+◌, ◌-◌, leb, l
 use Rattle.refusal.specs.Numbers.{TOP, Check, ◌if◌}
 use Rattle.book.specs.declared.Transfer.{Transfer}
 use Rattle.book.specs.declared.Motion.{Motion}
-use Rattle.book.specs.Motion.{Standing, loaded}
+use Rattle.book.specs.Motion.{Standing}
 
 -- The largest age: "an unsigned 16-bit number, 0 to 65,535".
 abbrev pub most_age : ℕ
@@ -14,11 +14,10 @@ most_age = 65535
 abbrev pub transfer_of : ℕ → ℕ → ℕ → ℕ → ℕ → Transfer
 transfer_of s d t q age = record { source = s; destination = d; minute = t; weight = q; age = age }
 
--- 22, then checks 5 to 10, with 21 straight after 8.
+-- Checks 5 to 10, with 21 straight after 8. What is on the scale plays no part: 9 looks at the balance of the destination alone.
 unfoldable pub transfer_checks : Standing → Transfer → List Check
 transfer_checks g x =
-    loaded g
-    ∷ 5 if leb g.vessels x.source
+    5 if leb g.vessels x.source
     ∷ 5 if leb g.vessels x.destination
     ∷ 6 if eqb x.source x.destination
     ∷ 7 if eqb x.weight 0

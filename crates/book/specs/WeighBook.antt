@@ -49,8 +49,8 @@ pub record Weighing : Type 0 where
 -- reports it is not fed
 abbrev pub weighing : Call → Weighing
 weighing (post x) = record { checks = λ w. transfer_checks (of_weigh w) x; next = λ w. weighed w (motion_of x); forecasts = true }
-weighing (lift x) = record { checks = λ w. lift_checks (of_weigh w) x; next = λ w. weighed w (lift_motion x); forecasts = true }
-weighing (tip y) = record { checks = λ w. tip_checks (of_weigh w) y; next = λ w. weighed w (tip_motion (w.weight the_scale) y); forecasts = true }
+weighing (lift x) = record { checks = λ w. lift_checks the_scale (of_weigh w) x; next = λ w. weighed w (lift_motion the_scale x); forecasts = true }
+weighing (tip y) = record { checks = λ w. tip_checks the_scale (of_weigh w) y; next = λ w. weighed w (tip_motion the_scale (w.weight the_scale) y); forecasts = true }
 weighing (ask q room) = record { checks = λ w. []; next = λ w. w; forecasts = false }
 
 -- "The first that applies is its answer, and nothing changes."

@@ -2,6 +2,7 @@
 #![tactic(auto)]
 
 ghost use Rattle.std.specs.Prelude.{◌≡◌, ◌≤◌};
+ghost use Rattle.book.specs.Head.{the_scale};
 ghost use Rattle.book.specs.Transfer.{motion_of};
 ghost use Rattle.book.specs.Scale.{lift_motion, tip_motion};
 ghost use Rattle.carrying.specs.Carrying.{Audited, Carriable, next_head, Countable, Carries};
@@ -41,7 +42,7 @@ pub fn motion_of(x: Transfer) -> Motion
 // A lift is a transfer onto the scale.
 pub fn lift_motion(x: Lift) -> Motion
     requires { x.age ≤ x.minute }
-    ensures { result ≡ lift_motion x }
+    ensures { result ≡ lift_motion the_scale x }
 {
     motion_of(Transfer {
         source: x.source,
@@ -54,7 +55,7 @@ pub fn lift_motion(x: Lift) -> Motion
 
 // A tip moves all the weight on the scale, and does not count.
 pub fn tip_motion(head: Head, y: Tip) -> Motion
-    ensures { result ≡ tip_motion head.scale y }
+    ensures { result ≡ tip_motion the_scale head.scale y }
 {
     Motion {
         moves: Move {

@@ -1,18 +1,20 @@
 -- The loops and parts of a report: clearing its numbers, entering a piece, what a pass asks of a book's pieces and leaves, and rows one behind the other.
 -- Assumes nothing.
-use Rattle.std.proofs.Common.{◌≡◌, refl, sym, ap, ◌∙◌, Bool, true, false, List, [], ◌∷◌, ◌++◌, append_assoc, append-nil, ℕ, zero, suc, ◌+◌, ◌*◌, ◌≤◌, zero-mul, suc-mul, add-zero, add-one, arith, eqb, length, length-take, take, drop, drop_of_length-le, take_at, drop_at, drop-drop}
+use Rattle.std.proofs.Common.{◌≡◌, refl, sym, ap, ◌∙◌, Bool, true, false, List, [], ◌∷◌, ◌++◌, append_assoc, append-nil, ℕ, zero, suc, ◌+◌, ◌*◌, ◌≤◌, ◌<◌, zero-add, zero-mul, suc-mul, add-zero, add-one, arith, eqb, length, length-take, take, drop, drop_of_length-le, take_at, drop_at, drop-drop}
 use Rattle.std.proofs.lemmas.List.{length-take-le}
 use Rattle.std.proofs.lemmas.Bool.{and_parts}
+use Rattle.std.proofs.lemmas.Bool.Decides.{nat_tests}
 use Rattle.table.specs.declared.Piece.{Piece}
-use Rattle.table.specs.Pieces.{Kind, in_vessel, sum}
+use Rattle.table.specs.Pieces.{Kind, in_vessel, sum, All}
 use Rattle.table.proofs.Pieces.{all_map, all_both}
 use Rattle.refusal.specs.Numbers.{TOP}
+use Rattle.book.specs.Head.{tab}
 use Rattle.book.specs.Reports.{from_origin, held_row, born_within, spread_row, rows, onto}
-use Rattle.book.proofs.BalanceLaws.{length_tab}
+use Rattle.book.proofs.BalanceLaws.{length_tab, tab_same}
 use Rattle.book.proofs.ReportLaws.{length_row, length_rows, held_room, spread_room, whole_room}
-use Rattle.filling.specs.Scatter.{held_by, born, every, origin_of, holder_of, cell_of, Tallied, one_pass, Reportable}
-use Rattle.filling.proofs.Scattered.{scattered}
-use Rattle.filling.proofs.Square.{tally_square, cells_inside, rows_in_one_pass}
+use Rattle.filling.specs.Scatter.{held_by, born, off_scale, origin_of, holder_of, cell_of, tally, Tallied, one_pass, Reportable}
+use Rattle.filling.proofs.Scattered.{tally_kind, scattered}
+use Rattle.filling.proofs.Square.{tally_square, in_a_vessel, cells_inside, rows_in_one_pass}
 
 -- What the passes over a book's pieces ask: the pieces that one counts at an index are some of those that a vessel holds.
 narrower : (j k : Kind) → ((h o b : ℕ) → j h o b ≡ true → k h o b ≡ true) → (ps : List Piece) → sum j ps ≤ sum k ps
@@ -27,13 +29,22 @@ module _ (size : ℕ) (ps : List Piece) (k : Reportable size ps) where
   by_holder_light u from to v = omega (arith, k.light v, narrower (born_within u from to v) (in_vessel v) (λ h o b e. (and_parts (eqb h v) _ e).0) ps)
 
   pub held_tallied : (v : ℕ) → Tallied (held_by v) origin_of size ps
-  held_tallied v = all_map (λ p h. (h, by_origin_light v p.origin)) k.origins
+  held_tallied v = all_map (λ p h c. (h, by_origin_light v p.origin)) k.origins
+
+  -- spread: the pieces that count are in vessels, and at a vessel they are those of its kind
+  holders_inside : (u from to : ℕ) → All (λ p. born u from to p ≡ true → p.holder < size) ps
+  holders_inside u from to = all_map (λ p h c. in_a_vessel size p h (and_parts (off_scale p) _ c).0) k.holders
+
+  tally_spread : (u from to v : ℕ) → v < size → tally (born u from to) holder_of ps v ≡ sum (born_within u from to v) ps
+  tally_spread u from to v below = let few = k.few in tally_kind (born u from to) holder_of v (born_within u from to v) (λ p g. grind (arith, nat_tests)) k.holders
 
   pub spread_tallied : (u from to : ℕ) → Tallied (born u from to) holder_of size ps
-  spread_tallied u from to = all_map (λ p h. (h, by_holder_light u from to p.holder)) k.holders
+  spread_tallied u from to = all_map (λ p f c. (f c, rw (tally_spread u from to p.holder (f c)) (by_holder_light u from to p.holder))) (holders_inside u from to)
 
-  pub whole_tallied : Tallied every (cell_of size) (size * size) ps
-  whole_tallied = all_both (cells_inside size k.holders k.origins) (all_map (λ p o. rw (tally_square size p.holder p.origin o k.origins) (by_origin_light p.holder p.origin)) k.origins)
+  pub whole_tallied : Tallied off_scale (cell_of size) (size * size) ps
+  whole_tallied =
+      all_map (λ p (f, (h, o)) c. (f c, rw (tally_square size p.holder p.origin k.few (in_a_vessel size p h c) o k.origins) (by_origin_light p.holder p.origin)))
+      (all_both (cells_inside size k.holders k.origins) (all_both k.holders k.origins))
 
 -- what fills the whole room is all that is left of it
 alone : (w room : List ℕ) → length w ≡ length room → onto w room ≡ w
@@ -42,14 +53,17 @@ alone w room e = rw (e, drop_of_length-le room {i = length room} (omega arith), 
 -- and what each leaves of room that it fills
 module _ (room : List ℕ) (ps : List Piece) where
   pub held_filled : (v : ℕ) → Reportable (length room) ps → one_pass (length room) (held_by v) origin_of room ps ≡ held_row (length room) v ps
-  held_filled v k = scattered _ _ _ room ps k.origins ∙ alone _ room (length_row _ v ps)
+  held_filled v k = scattered _ _ _ room ps (all_map (λ p h c. h) k.origins) ∙ alone _ room (length_row _ v ps)
 
   pub spread_filled : (u from to : ℕ) → Reportable (length room) ps
       → one_pass (length room) (born u from to) holder_of room ps ≡ spread_row (length room) u from to ps
-  spread_filled u from to k = scattered _ _ _ room ps k.holders ∙ alone _ room (length_tab _ 0 _)
+  spread_filled u from to k =
+      let row : tab (tally (born u from to) holder_of ps) 0 (length room) ≡ spread_row (length room) u from to ps
+      = tab_same _ _ 0 0 (length room) (λ v g. rw zero-add (tally_spread (length room) ps k u from to v g)) in
+      scattered _ _ _ room ps (holders_inside (length room) ps k u from to) ∙ rw row (alone _ room (length_tab _ 0 _))
 
-  pub whole_filled : (size : ℕ) → length room ≡ size * size → Reportable size ps → one_pass (length room) every (cell_of size) room ps ≡ rows size 0 size ps
-  whole_filled size e k = rw e (rows_in_one_pass size room k.holders k.origins) ∙ alone _ room (length_rows size 0 size ps ∙ sym e)
+  pub whole_filled : (size : ℕ) → length room ≡ size * size → Reportable size ps → one_pass (length room) off_scale (cell_of size) room ps ≡ rows size 0 size ps
+  whole_filled size e k = rw e (rows_in_one_pass size room k.few k.holders k.origins) ∙ alone _ room (length_rows size 0 size ps ∙ sym e)
 
 -- Rows one behind the other.
 rows_snoc : (size v n : ℕ) (ps : List Piece) → rows size v (suc n) ps ≡ rows size v n ps ++ held_row size (v + n) ps

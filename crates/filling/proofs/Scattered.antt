@@ -2,11 +2,11 @@
 -- Shown once for any test and any index, so that held, spread and whole are instances.
 -- Assumes nothing.
 use Rattle.std.proofs.lemmas.List.{set-append_left}
-use Rattle.std.proofs.Common.{◌≡◌, refl, sym, ap, ◌∙◌, Bool, ◌&&◌, List, [], ◌∷◌, ◌++◌, ℕ, ◌+◌, ◌<◌, append-nil, arith, eqb, length, get_or, drop, replicate, length-set, drop_of_length-le, get_or-set_same, get_or-set_other, ext_get_or}
+use Rattle.std.proofs.Common.{◌≡◌, refl, sym, ap, ◌∙◌, Bool, true, ◌&&◌, List, [], ◌∷◌, ◌++◌, ℕ, ◌+◌, ◌<◌, append-nil, arith, eqb, length, get_or, drop, replicate, length-set, drop_of_length-le, get_or-set_same, get_or-set_other, ext_get_or}
 use Rattle.std.proofs.lemmas.Bool.Decides.{nat_tests}
 use lib.ListN.{get_or-replicate, length-replicate, get_or-append}
 use Rattle.table.specs.declared.Piece.{Piece}
-use Rattle.table.specs.Pieces.{only, All, done, also}
+use Rattle.table.specs.Pieces.{only, Kind, sum, All, done, also}
 use Rattle.table.proofs.Pieces.{all_head, all_tail, all_map}
 use Rattle.book.specs.Head.{tab}
 use Rattle.book.specs.Reports.{onto}
@@ -35,11 +35,11 @@ module _ (test : Piece → Bool) (at : Piece → ℕ) where
   scatter_at [] r j h = omega arith
   scatter_at (p ∷ ps) r j h = omega (arith, scatter_at ps (entered test at r p) j (rw (length_entered r p) h), entered_at r p j h)
 
-  -- numbers behind those that the pieces' indices lie in stay
-  entered_left : (r rest : List ℕ) (p : Piece) → at p < length r → entered test at (r ++ rest) p ≡ entered test at r p ++ rest
+  -- numbers behind those that the indices of the pieces that count lie in stay
+  entered_left : (r rest : List ℕ) (p : Piece) → (test p ≡ true → at p < length r) → entered test at (r ++ rest) p ≡ entered test at r p ++ rest
   entered_left r rest p h = grind (arith, set-append_left, get_or-append)
 
-  scatter_left : (ps : List Piece) (r rest : List ℕ) → All (λ p. at p < length r) ps → scatter test at (r ++ rest) ps ≡ scatter test at r ps ++ rest
+  scatter_left : (ps : List Piece) (r rest : List ℕ) → All (λ p. test p ≡ true → at p < length r) ps → scatter test at (r ++ rest) ps ≡ scatter test at r ps ++ rest
   unfolding scatter
   scatter_left [] r rest done = refl
   scatter_left (p ∷ ps) r rest (also h x) = rw (entered_left r rest p h) (scatter_left ps (entered test at r p) rest (rw (length_entered r p) x))
@@ -49,22 +49,28 @@ module _ (test : Piece → Bool) (at : Piece → ℕ) where
   over_zeros n ps j h = omega (arith, scatter_at ps (replicate n 0) j (rw length-replicate h), get_or-replicate {A = ℕ} n j 0 0 h)
 
   -- the report: n numbers cleared, and the pieces entered
-  pub scattered : (n : ℕ) (room : List ℕ) (ps : List Piece) → All (λ p. at p < n) ps → scatter test at (cleared n room) ps ≡ onto (tab (tally test at ps) 0 n) room
+  pub scattered : (n : ℕ) (room : List ℕ) (ps : List Piece) → All (λ p. test p ≡ true → at p < n) ps → scatter test at (cleared n room) ps ≡ onto (tab (tally test at ps) 0 n) room
   scattered n room ps inside =
       let long : length (scatter test at (replicate n 0) ps) ≡ n = length_scatter ps (replicate n 0) ∙ length-replicate n 0 in
       let sums : scatter test at (replicate n 0) ps ≡ tab (tally test at ps) 0 n =
       ext_get_or 0 _ _ (rw length_tab long) (λ j h. let l : j < n = rw long at h in over_zeros n ps j l ∙ sym (row_at (tally test at ps) n j l)) in
       rw length_tab (scatter_left ps (replicate n 0) (drop n room) (rw length-replicate inside) ∙ ap (λ (l : List ℕ). l ++ drop n room) sums)
 
+  -- where the pieces that count at an index are those of a kind, what is tallied for it is the sum of that kind
+  pub tally_kind : (j : ℕ) (k : Kind) {P : Piece → Type 0} → ((p : Piece) → P p → eqb (at p) j && test p ≡ k p.holder p.origin p.birth) → {ps : List Piece} → All P ps → tally test at ps j ≡ sum k ps
+  tally_kind j k f done = refl
+  tally_kind j k f (also {p = p} h x) = rw (f p h) (ap (λ (n : ℕ). only (k p.holder p.origin p.birth) p.weight + n) (tally_kind j k f x))
+
   -- numbers that are all 0 can be filled
   pub fillable : (room r : List ℕ) (ps : List Piece) → r ≡ replicate (length room) 0 → Tallied test at (length room) ps → Fillable test at r ps
-  fillable room r ps e u = rw (e, length-replicate) (all_map (λ p (l, light). (l, rw (over_zeros (length room) ps (at p) l) light)) u)
+  fillable room r ps e u = rw (e, length-replicate) (all_map (λ p k c. let (l, light) = k c in (l, rw (over_zeros (length room) ps (at p) l) light)) u)
 
   -- The loop, by the pieces left: what entering the first of them asks, and a turn.
   pub may_enter : (r : List ℕ) (p : Piece) (left ps : List Piece) → left ≡ p ∷ ps → Fillable test at r left → Enterable test at r p
   unfolding scatter
   may_enter r p left ps e f =
-      let h = all_head (rw e at f) in
+      λ c.
+      let h = all_head (rw e at f) c in
       (h.0, omega (arith, h.1, scatter_at ps (entered test at r p) (at p) (rw length_entered h.0)))
 
   pub fillable_next : (r r' : List ℕ) (p : Piece) (left ps : List Piece) → left ≡ p ∷ ps → Fillable test at r left → r' ≡ entered test at r p → Fillable test at r' ps

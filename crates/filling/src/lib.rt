@@ -6,13 +6,13 @@ ghost use Rattle.std.specs.Prelude.{◌≡◌, ◌≤◌, ◌*◌, Bool, if◌th
 ghost use Rattle.table.specs.declared.Piece.{Piece};
 ghost use Rattle.refusal.specs.Numbers.{first};
 ghost use Rattle.book.specs.Reports.{held_row, spread_row, rows, report_row, report_checks, onto};
-ghost use Rattle.filling.specs.Scatter.{held_by, born, every, origin_of, holder_of, cell_of, entered, scatter, Enterable, Fillable, Tallied, one_pass, Reportable};
+ghost use Rattle.filling.specs.Scatter.{held_by, born, off_scale, origin_of, holder_of, cell_of, entered, scatter, Enterable, Fillable, Tallied, one_pass, Reportable};
 
-use book::Report;
+use book::{Report, SCALE};
 use table::Piece;
 use table::reading::Pieces;
 
-// What a report adds up: which pieces count, and at which number of the room each is entered.
+// What a report adds up: which pieces count, and at which number of the room each is entered. Pieces on the scale are in no vessel.
 trait Tally {
     ghost counted: { Self → Piece → Bool };
 
@@ -38,7 +38,7 @@ impl Tally for HeldBy {
     }
 }
 
-// The pieces born at an origin from a minute to a minute, each at its holder.
+// The pieces in vessels that were born at an origin from a minute to a minute, each at its holder.
 #[derive(Clone, Copy)]
 struct BornAt {
     origin: u32,
@@ -56,24 +56,24 @@ impl Tally for BornAt {
         if p.origin != self.origin {
             return None;
         }
-        let counts = (self.from..=self.to).contains(&p.birth);
+        let counts = p.holder != SCALE && (self.from..=self.to).contains(&p.birth);
         counts.then_some(p.holder as usize)
     }
 }
 
-// All pieces, each at its origin in the row of its holder; a row has so many numbers.
+// All pieces in vessels, each at its origin in the row of its holder; a row has so many numbers.
 #[derive(Clone, Copy)]
 struct ByBoth {
     row: u32,
 }
 
 impl Tally for ByBoth {
-    ghost counted = { λ t. every };
+    ghost counted = { λ t. off_scale };
 
     ghost index_of = { λ t. cell_of t.row };
 
     fn index(&self, p: Piece) -> Option<usize> {
-        Some(p.holder as usize * self.row as usize + p.origin as usize)
+        (p.holder != SCALE).then_some(p.holder as usize * self.row as usize + p.origin as usize)
     }
 }
 

@@ -152,33 +152,33 @@ module _ (h : Head) (x : Transfer) where
 -- A lift, onto the scale.
 module _ (h : Head) (x : Lift) where
   pub lift_posts : (t t' : List ℕ) (r : Result Carried Refusal) (z : Transferred) → z ≡ transferred h r
-      → PostsAny (λ g. lift_checks g x) (λ _. lift_motion x) (λ rule. rule) h t t' r → Posts h (lift x) t t' z
+      → PostsAny (λ g. lift_checks the_scale g x) (λ _. lift_motion the_scale x) (λ rule. rule) h t t' r → Posts h (lift x) t t' z
   unfolding lift_checks
   lift_posts t t' r z ez p =
-      rw ez (taking_posts h t (lift x) (λ g. lift_checks g x) (lift_motion x) refl (λ g. tt) (λ few q. grind (arith, lift_fit (of_head h) x q)) t' r p)
+      rw ez (taking_posts h t (lift x) (λ g. lift_checks the_scale g x) (lift_motion the_scale x) refl (λ g. tt) (λ few q. grind (arith, lift_fit the_scale (of_head h) x q)) t' r p)
 
 -- A tip: all that is on the scale goes whole, so that there is always a place for it.
 module _ (h : Head) (y : Tip) where
   module _ (t t' : List ℕ) (r : Result Carried Refusal) where
-    tip_own : Audited h t → (n : ℕ) → first (tip_checks (of_head h) y) ≡ n → number_of h t (tip y) ≡ n
-    tip_own w n e = number_is h t w (tip y) ∙ sym (ap (λ (g : Standing). first (tip_checks g y)) (standing h t w)) ∙ e
+    tip_own : Audited h t → (n : ℕ) → first (tip_checks the_scale (of_head h) y) ≡ n → number_of h t (tip y) ≡ n
+    tip_own w n e = number_is h t w (tip y) ∙ sym (ap (λ (g : Standing). first (tip_checks the_scale g y)) (standing h t w)) ∙ e
 
-    tip_done : Audited h t → first (tip_checks (of_head h) y) ≡ 0 → Carries h as_they_lie (tip_motion h.scale y) t t' r → Tips h y t t' (tipped h r)
+    tip_done : Audited h t → first (tip_checks the_scale (of_head h) y) ≡ 0 → Carries h as_they_lie (tip_motion the_scale h.scale y) t t' r → Tips h y t t' (tipped h r)
     unfolding applied table_left takes balance_at
     tip_done w z p =
         let scale_is : h.scale ≡ held the_scale (pieces_of h.pieces t) = (k h t w).balance the_scale in
-        let motion_is : tip_motion h.scale y ≡ tip_on (book_of h t) y = ap (λ (n : ℕ). tip_motion n y) scale_is in
+        let motion_is : tip_motion the_scale h.scale y ≡ tip_on the_scale (book_of h t) y = ap (λ (n : ℕ). tip_motion the_scale n y) scale_is in
         let q = rw motion_is at p in
         let b = book_of h t in
-        let e : full (places_of t) (tip_on b y).moves (taken as_they_lie (tip_on b y).moves b.pieces) ≡ false = le-ltb (places_of t) (length (pieces_after b as_they_lie (tip_on b y))) (rw (tip_length b y) (k h t w).sound.fits) in
+        let e : full (places_of t) (tip_on the_scale b y).moves (taken as_they_lie (tip_on the_scale b y).moves b.pieces) ≡ false = le-ltb (places_of t) (length (pieces_after b as_they_lie (tip_on the_scale b y))) (rw (tip_length the_scale b y) (k h t w).sound.fits) in
         let ea : number_of h t (tip y) ≡ 0 = tip_own w 0 z in
         let o = accepted_on h t (tip y) ea in
         let s = (keeps (places_of t) b (tip y) (k h t w).sound (sym (number_same (places_of t) h t b (k h t w).on (k h t w).sound (tip y)) ∙ ea)).sound.sound in
-        let u : Holders h.vessels (pieces_after b as_they_lie (tip_on b y)) = all_map (λ q g. g.holder_in) s in
-        let d : y.destination < most_holders = grind (arith, tip_fit (of_head h) y z, vessels_fit h t w) in
-        record { answer = rw o (ap (tipped h) q.answer ∙ rw (e, next_head_is h t w as_they_lie (tip_on b y) (omega arith) d u)); table = rw o (q.table ∙ rw e) }
+        let u : Holders h.vessels (pieces_after b as_they_lie (tip_on the_scale b y)) = all_map (λ q g. g.holder_in) s in
+        let d : y.destination < most_holders = grind (arith, tip_fit the_scale (of_head h) y z, vessels_fit h t w) in
+        record { answer = rw o (ap (tipped h) q.answer ∙ rw (e, next_head_is h t w as_they_lie (tip_on the_scale b y) (omega arith) d u)); table = rw o (q.table ∙ rw e) }
 
-    pub tip_posts : (z : Reply) → z ≡ tipped h r → PostsAny (λ g. tip_checks g y) (λ weight. tip_motion weight y) (λ _. as_they_lie) h t t' r → Tips h y t t' z
+    pub tip_posts : (z : Reply) → z ≡ tipped h r → PostsAny (λ g. tip_checks the_scale g y) (λ weight. tip_motion the_scale weight y) (λ _. as_they_lie) h t t' r → Tips h y t t' z
     tip_posts z ez p =
-        rw ez (posted (λ g. tip_checks g y) (λ weight. tip_motion weight y) (λ _. as_they_lie) h t t' r (tip y) (Tips h y t t' (tipped h r)) (tips_refusal h t t' r y)
+        rw ez (posted (λ g. tip_checks the_scale g y) (λ weight. tip_motion the_scale weight y) (λ _. as_they_lie) h t t' r (tip y) (Tips h y t t' (tipped h r)) (tips_refusal h t t' r y)
         (λ w n e. tip_own w (suc n) e) tip_done p)

@@ -1,4 +1,5 @@
 // Lift and tip as postings.
+ghost use Rattle.book.specs.Head.{the_scale};
 ghost use Rattle.book.specs.Scale.{lift_checks, lift_motion, tip_checks, tip_motion, as_they_lie};
 
 use super::Posting;
@@ -10,9 +11,9 @@ use refusal::Refusal;
 const AS_THEY_LIE: u32 = 0;
 
 impl Posting for Lift {
-    ghost checks = { λ x g. lift_checks g x };
+    ghost checks = { λ x g. lift_checks the_scale g x };
 
-    ghost motion = { λ x _. lift_motion x };
+    ghost motion = { λ x _. lift_motion the_scale x };
 
     ghost rule = { λ _ rule. rule };
 
@@ -50,9 +51,9 @@ impl Posting for Lift {
 }
 
 impl Posting for Tip {
-    ghost checks = { λ y g. tip_checks g y };
+    ghost checks = { λ y g. tip_checks the_scale g y };
 
-    ghost motion = { λ y weight. tip_motion weight y };
+    ghost motion = { λ y weight. tip_motion the_scale weight y };
 
     ghost rule = { λ _ _. as_they_lie };
 

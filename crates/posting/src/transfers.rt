@@ -15,9 +15,6 @@ impl Posting for Transfer {
 
     #[tactic(auto, unfolding(book::specs::Transfer::transfer_checks, book::specs::Head::balance_at))]
     fn check(self, head: Head) -> Result<(), Refusal> {
-        if 0 < head.scale {
-            return Err(Refusal::ScaleLoaded);
-        }
         if head.vessels <= self.source || head.vessels <= self.destination {
             return Err(Refusal::NoVessel);
         }

@@ -30,10 +30,8 @@ module _ (h : Head) (t : List ℕ) (q : Report) (room : List ℕ) where
   asked_off n e nz = grind (arith, off_number h t (ask q room) n)
 
   -- and as its own do, past checks 1 and 4
-  pub asked_on : (0 ≡ first (book_checks h t)) × Sized h → (n : ℕ) → n ≡ first (loaded (of_head h) ∷ report_checks h.vessels (length room) q) → Judged h q t room n
-  asked_on up n en =
-      let same = ap (λ (g : Standing). first (loaded g ∷ report_checks h.vessels (length room) q)) (standing_same h t (known h t 0 up refl)) in
-      grind (arith, same, on_number h t (ask q room) 0 up.0)
+  pub asked_on : (0 ≡ first (book_checks h t)) × Sized h → (n : ℕ) → n ≡ first (report_checks h.vessels (length room) q) → Judged h q t room n
+  asked_on up n en = grind (arith, on_number h t (ask q room) 0 up.0)
 
   -- refused
   pub asked_refused : (why : Refusal) → Judged h q t room (Refusals.number_of why) → (n : ℕ) → n ≡ Refusals.number_of why → Asks h q t room room (record { number = n; head = h })
@@ -51,20 +49,16 @@ module _ (h : Head) (t : List ℕ) (q : Report) (room : List ℕ) where
       book : Known h t
       book = known h t 0 (up, e.sized) refl
 
-      own : (ltb 0 (held the_scale (pieces_of h.pieces t)) ≡ false) × (first (report_checks h.vessels (length room) q) ≡ 0)
-      own = grind (arith, on_number h t (ask q room) 0 up)
-
       pub asked_there : 4 * h.pieces ≤ length t
       asked_there = book.there
 
       pub asked_fits : first (report_checks h.vessels (length room) q) ≡ 0
-      asked_fits = own.1
+      asked_fits = grind (arith, on_number h t (ask q room) 0 up)
 
       pub asked_reportable : Reportable h.vessels (pieces_of h.pieces t)
       asked_reportable =
           let pieces = book.sound.sound in
-          let bare : held the_scale (pieces_of h.pieces t) ≡ 0 = omega (arith, ltb-false 0 (held the_scale (pieces_of h.pieces t)) own.0) in
-          record { few = book.sound.vessels_fit; holders = in_vessels _ _ _ pieces bare; origins = all_map (λ p f. f.origin_in) pieces; light = book.light.light }
+          record { few = book.sound.vessels_fit; holders = all_map (λ p f. f.holder_in) pieces; origins = all_map (λ p f. f.origin_in) pieces; light = book.light.light }
 
       pub asked_accepted : (z : Reply) → z ≡ record { number = 0; head = h } → (r : List ℕ) → r ≡ onto (report_row h.vessels (pieces_of h.pieces t) q) room → Asks h q t room r z
       unfolding call_on

@@ -1,8 +1,7 @@
 // Reports: the weight by origin in a vessel, by vessel from an origin, and all of it. Each writes to room that the caller lends.
 #![tactic(auto)]
 
-ghost use Rattle.std.specs.Prelude.{◌≡◌, ◌∷◌};
-ghost use Rattle.book.specs.Motion.{of_head, loaded};
+ghost use Rattle.std.specs.Prelude.{◌≡◌};
 ghost use Rattle.refusal.specs.Numbers.{first};
 ghost use Rattle.refusal.specs.Refusals.{outcome_number};
 ghost use Rattle.book.specs.declared.Report.TheVariants.{Held, Spread, Whole};
@@ -15,14 +14,10 @@ use refusal::Refusal;
 use table::reading::Pieces;
 
 // The checks after 1 and 4. What is asked is told by its variant, which is looked at once here and once where the room is filled.
-#[tactic(auto, unfolding(book::specs::Reports::report_checks, book::specs::Head::balance_at))]
-fn check_asked(head: Head, asked: Report, room: usize) -> Result<(), Refusal>
-    ensures { outcome_number result ≡ first (loaded (of_head head) ∷ report_checks head.vessels room asked) }
+#[tactic(auto, unfolding(book::specs::Reports::report_checks))]
+fn check_asked(vessels: u32, asked: Report, room: usize) -> Result<(), Refusal>
+    ensures { outcome_number result ≡ first (report_checks vessels room asked) }
 {
-    if 0 < head.scale {
-        return Err(Refusal::ScaleLoaded);
-    }
-    let vessels = head.vessels;
     let row = vessels as usize;
     let needed = match asked {
         Report::Held(vessel) => {
@@ -54,7 +49,7 @@ fn check(head: Head, table: &[u32], asked: Report, room: &[u32]) -> Result<(), R
     ensures { Judged head asked table.now room.now (outcome_number result) }
 {
     audit::check_book(head, table)?;
-    check_asked(head, asked, room.len())
+    check_asked(head.vessels, asked, room.len())
 }
 
 // What is asked of the book, written to the room.

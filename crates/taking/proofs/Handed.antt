@@ -1,12 +1,14 @@
 -- The pieces after what was taken is handed over: sums, their number, and what holds of each. Of any fair taking.
 -- Assumes nothing.
-use Rattle.std.proofs.Common.{◌≡◌, refl, sym, ap, ◌&&◌, List, [], ◌∷◌, map, ℕ, ◌+◌, ◌-◌, ◌≤◌, min, arith, eqb, length, length-append}
+use Rattle.std.proofs.Common.{◌≡◌, refl, sym, ap, ◌≢◌, append-nil, ◌&&◌, List, [], ◌∷◌, map, ℕ, ◌+◌, ◌-◌, ◌≤◌, min, arith, eqb, length, length-append}
 use lib.ListN.{length-map}
 use Rattle.table.specs.declared.Piece.{Piece}
 use Rattle.table.specs.Pieces.{hand_to, only, sum, in_vessel, born_at, held, weight_of, All, done, also}
 use Rattle.table.proofs.Pieces.{total_append, only_add, only_zero, sum_if_any, length_if_any, all_append, all_map, all_if_any}
 use Rattle.taking.specs.declared.Move.{Move}
+use Rattle.taking.specs.Sweeping.{held_by}
 use Rattle.taking.specs.Taking.{Taken, newborn, handed}
+use Rattle.taking.proofs.HeldBy.{held_by_append, none_of_it}
 use Rattle.taking.proofs.Taking.{Reweigh, Fair}
 
 held_handed : (v d : ℕ) (ps : List Piece) → held v (map (hand_to d) ps) ≡ only (eqb d v) (weight_of ps)
@@ -25,6 +27,11 @@ all_hand : (P Q : Piece → Type 0) {s d : ℕ} → ((p : Piece) → p.holder �
     → All (λ p. (p.holder ≡ s) × P p) ps → All Q (map (hand_to d) ps)
 all_hand P Q hand done = done
 all_hand P Q hand (also h x) = also (hand _ h.0 h.1) (all_hand P Q hand x)
+
+-- what is handed to another is not held by c
+handed_away : (c d : ℕ) → d ≢ c → (ps : List Piece) → All (λ p. p.holder ≢ c) (map (hand_to d) ps)
+handed_away c d ne [] = done
+handed_away c d ne (p ∷ ps) = also ne (handed_away c d ne ps)
 
 all_trivial : (ps : List Piece) → All (λ p. Unit {0}) ps
 all_trivial [] = done
@@ -49,6 +56,14 @@ module _ (x : Move) (ps : List Piece) (r : Taken) (l : Fair x.source x.weight ps
         only_add (eqb x.destination v) (weight_of r.given) r.born,
         ap (only (eqb x.destination v)) l.makes_up,
       )))
+
+  -- what neither source nor destination holds stays as it lay
+  pub handed_others : (c : ℕ) → c ≢ x.source → c ≢ x.destination → held_by c (handed x r) ≡ held_by c ps
+  handed_others c apart beside =
+      let far = λ (e : x.destination ≡ c). beside (sym e) in
+      let given = none_of_it c (handed_away c x.destination far r.given) in
+      let born = none_of_it c (all_if_any (newborn x r.born) (λ u. far)) in
+      simp (held_by_append, given, born, append-nil) (l.others c apart)
 
   -- P before gives Q afterwards
   pub handed_all : (P Q : Piece → Type 0) → Reweigh P → ((p : Piece) → P p → Q p)

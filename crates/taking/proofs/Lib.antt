@@ -1,3 +1,4 @@
+pub mod HeldBy
 pub mod Taking
 pub mod Handed
 pub mod Rules

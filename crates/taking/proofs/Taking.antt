@@ -1,14 +1,17 @@
 -- What every taking leaves, shown once, over any selection that picks a piece of the source while there is one: nothing is lost, the
--- given pieces and what is born make up the weight wanted, and at most one piece more comes of it. `taken_law` says it of the four rules.
+-- given pieces and what is born make up the weight wanted, at most one piece more comes of it, and what others hold stays in its order.
+-- `taken_law` says it of the four rules.
 -- Assumes nothing.
-use Rattle.std.proofs.Common.{◌≡◌, refl, ◌≢◌, Bool, true, false, cond, List, [], ◌∷◌, ◌++◌, ℕ, zero, suc, ◌+◌, ◌-◌, ◌≤◌, min, arith, leb, eqb, length, length-append, leb-true, leb-false, eqb-true, eq-eqb}
+use Rattle.std.proofs.Common.{◌≡◌, refl, sym, ap, ◌∙◌, ◌≢◌, Bool, true, false, cond, List, [], ◌∷◌, ◌++◌, ℕ, zero, suc, ◌+◌, ◌-◌, ◌≤◌, min, arith, leb, eqb, length, length-append, leb-true, leb-false, eqb-true, eq-eqb}
 use Rattle.std.proofs.lemmas.Grind.{common_steps}
 use borrow.Author.Tests.{eqb-false}
 use Rattle.table.specs.declared.Piece.{Piece}
 use Rattle.table.specs.Pieces.{of_weight, Kind, weigh, sum, in_vessel, held, weight_of, All, done, also}
 use Rattle.table.proofs.Pieces.{total_append, in_two, all_append, all_split, all_head, all_tail}
+use Rattle.taking.proofs.HeldBy.{held_by_append, passed_over}
 use Rattle.taking.specs.Selection.{Found, nothing, at, behind, against, select, wins}
 use Rattle.taking.specs.declared.Move.{Move}
+use Rattle.taking.specs.Sweeping.{held_by}
 use Rattle.taking.specs.Taking.{Taken, stop, take_from, take_found, take_next, take_up_to, taken}
 
 -- What a selection for vessel s owes: a piece of s where it stands, or nothing where s holds no weight.
@@ -29,13 +32,15 @@ abbrev pub Reweigh {ℓ} : (Piece → Type ℓ) → Type ℓ
 Reweigh P = (p : Piece) (w : ℕ) → 1 ≤ w → P p → P (of_weight w p)
 
 -- A fair taking of `want` from s: every sum is kept, the weight wanted is given or born, s gives before anything is born,
--- each split is a piece more, and what held of every piece still holds of those that stay and of those given, which were held by s.
+-- each split is a piece more, what held of every piece still holds of those that stay and of those given, which were held by s, and
+-- what another holds stays as it is, in its order.
 pub record Fair (s want : ℕ) (ps : List Piece) (r : Taken) : Type 1 where
   pub parts : (k : Kind) → sum k r.rest + sum k r.given ≡ sum k ps
   pub makes_up : weight_of r.given + r.born ≡ want
   pub born_is : r.born ≡ want - held s ps
   pub longer : length r.rest + length r.given ≡ length ps + r.split
   pub keeps : (P : Piece → Type 0) → Reweigh P → All P ps → All P r.rest × All (λ p. (p.holder ≡ s) × P p) r.given
+  pub others : (c : ℕ) → c ≢ s → held_by c r.rest ≡ held_by c ps
 
 -- Under a rule that picks one piece after the other there is at most one split or birth, and a split only where s holds more than is wanted.
 pub record Law (s want : ℕ) (ps : List Piece) (r : Taken) : Type 1 where
@@ -50,7 +55,7 @@ module _ (s : ℕ) where
 
   law_stop : (want : ℕ) (ps : List Piece) → want ≡ want - held s ps → Law s want ps (stop want ps)
   law_stop want ps h = record {
-    fair = record { parts = λ k. omega arith; makes_up = omega arith; born_is = h; longer = omega arith; keeps = λ P c x. (x, done) };
+    fair = record { parts = λ k. omega arith; makes_up = omega arith; born_is = h; longer = omega arith; keeps = λ P c x. (x, done); others = λ c ne. refl };
     one_more = omega arith;
     left_over = omega arith;
     counted = omega arith;
@@ -71,6 +76,7 @@ module _ (s : ℕ) where
               let y = all_split b (p ∷ a) x in
               let z = f.keeps P c (all_append y.0 (all_tail y.1)) in
               (z.0, also (hp, all_head y.1) z.1);
+          others = λ c ne. simp held_by_append (simp held_by_append at (f.others c ne) ∙ ap (λ l. held_by c b ++ l) (sym (passed_over c p a (λ u. ne (sym u ∙ hp)))));
         };
         one_more = l.one_more;
         counted = omega (arith, l.counted);
@@ -87,6 +93,9 @@ module _ (s : ℕ) where
           keeps = λ P c x.
               let y = all_split b (p ∷ a) x in
               (all_append y.0 (also (c p _ (omega arith) (all_head y.1)) (all_tail y.1)), also (hp, c p want some (all_head y.1)) done);
+          others = λ c ne.
+              let y = λ (w : ℕ). passed_over c (of_weight w p) a (λ u. ne (sym u ∙ hp)) in
+              simp held_by_append (ap (λ l. held_by c b ++ l) (y (p.weight - want) ∙ sym (y p.weight)));
         };
         one_more = omega arith;
         counted = omega arith;

@@ -1,0 +1,153 @@
+-- A TRANSFER DIVIDED. "A transfer leaves what a lift onto a second, empty scale and its tip would leave": on every sound book, whatever lies on its own
+-- scale, and under any number for the second one that is no vessel's and holds nothing. It is refused where one of the two would be, and with the number
+-- of its own list: where the lift is accepted, with that of the tip, or with 6 where it goes back to its source; where the lift is refused, with that
+-- of the lift, if nothing is amiss with the destination.
+-- The idea: the same pieces are picked, whoever they are handed to. What was lifted lies last, in picked order, and nothing else is on that scale. So the
+-- tip sweeps just that, and hands it on as if it had been handed there at once.
+-- Assumes nothing.
+use Rattle.std.proofs.Common.{◌≡◌, refl, sym, ap, ◌∙◌, ◌≢◌, List, [], ◌∷◌, ◌++◌, ℕ, ◌+◌, ◌*◌, ◌≤◌, ◌<◌, add-zero, arith, leb, ltb, length, drop, drop_at}
+use Rattle.std.proofs.lemmas.Bool.Decides.{nat_tests}
+use Rattle.table.specs.declared.Piece.{Piece}
+use Rattle.table.specs.Pieces.{held, All}
+use Rattle.table.specs.Table.{flat, lay}
+use Rattle.table.proofs.Pieces.{all_map}
+use Rattle.table.proofs.Table.{length_flat, quad_is}
+use Rattle.taking.specs.Taking.{taken, handed}
+use Rattle.taking.proofs.Handed.{handed_all}
+use Rattle.taking.proofs.Sweeping.{none_held, sweeps, passed_on}
+use Rattle.refusal.specs.Numbers.{TOP, ◌if◌, first}
+use Rattle.book.specs.declared.Transfer.{Transfer}
+use Rattle.book.specs.Head.{Book}
+use Rattle.book.specs.Motion.{of_book, takes, pieces_after}
+use Rattle.book.specs.Transfer.{transfer_checks, motion_of}
+use Rattle.book.specs.Scale.{lift_part, tip_part, lift_checks, tip_checks, lift_motion, as_they_lie}
+use Rattle.book.specs.Calls.{post, lifting, tipping, tip_on, Meaning, meaning}
+use Rattle.book.proofs.Checks.{fit, LiftFit, lift_fit}
+use Rattle.book.proofs.Sound.{own, SoundBook, takes_law, after_length, held_after, tip_length, accepted_own}
+
+-- pieces laid on a table where as many lay
+lay_again : (ps qs : List Piece) (t : List ℕ) → length qs ≡ length ps → lay qs (lay ps t) ≡ lay qs t
+lay_again ps qs t e =
+    let k : length (flat ps) ≡ 4 * length qs = length_flat ps ∙ rw e (sym (quad_is (length ps))) in
+    ap (λ (l : List ℕ). flat qs ++ l) (drop_at (flat ps) (drop (4 * length ps) t) (4 * length qs) k ∙ rw e)
+
+module _ (scale places : ℕ) (b : Book) (x : Transfer) where
+  -- the transfer, its lift onto that scale, and its tip; and the book between these two
+  abbrev pub whole : Meaning
+  whole = meaning (post x)
+
+  abbrev pub up : Meaning
+  up = lifting scale (lift_part x)
+
+  abbrev pub down : Meaning
+  down = tipping scale (tip_part x)
+
+  abbrev pub lifted : Book
+  lifted = up.next b
+
+  -- What they have in common.
+  pub record Divides : Type 0 where
+    -- an accepted transfer leaves what they leave, and says what the lift says
+    pub both_pass : own places b whole ≡ 0 → (own places b up ≡ 0) × (own places lifted down ≡ 0)
+    pub same_book : own places b whole ≡ 0 → down.next lifted ≡ whole.next b
+    pub same_table : own places b whole ≡ 0 → (t : List ℕ) → down.table lifted (up.table b t) ≡ whole.table b t
+    pub same_answer : (up.answer b ≡ whole.answer b) × (up.even b ≡ whole.even b)
+    -- where the lift is accepted, the transfer has the tip's number, or 6 where it goes back to its source
+    pub tip_decides : own places b up ≡ 0 → x.source ≢ x.destination → own places b whole ≡ own places lifted down
+    pub same_vessel : own places b up ≡ 0 → x.source ≡ x.destination → own places b whole ≡ 6
+    -- where the lift is refused, so is the transfer; and with the same number, if nothing is amiss with the destination
+    pub lift_decides : own places b up ≢ 0 → own places b whole ≢ 0
+    pub lift_number : x.destination < b.vessels → x.source ≢ x.destination → held x.destination b.pieces + x.weight ≤ TOP → own places b whole ≡ own places b up
+
+  -- The same pieces are picked, whoever they are handed to.
+  same_taken : takes b b.rule (lift_motion scale (lift_part x)) ≡ takes b b.rule (motion_of x)
+  unfolding takes taken
+  same_taken = refl
+
+  same_length : length lifted.pieces ≡ length (pieces_after b b.rule (motion_of x))
+  same_length = after_length b b.rule (lift_motion scale (lift_part x)) ∙ rw same_taken (sym (after_length b b.rule (motion_of x)))
+
+  same_said : (up.answer b ≡ whole.answer b) × (up.even b ≡ whole.even b)
+  same_said = rw same_taken (refl, refl)
+
+  -- what a transfer and a lift pass where they are accepted
+  post_passed : own places b whole ≡ 0 → (first (transfer_checks (of_book b) x) ≡ 0) × (length (pieces_after b b.rule (motion_of x)) ≤ places)
+  unfolding transfer_checks
+  post_passed e = accepted_own places b (motion_of x) (transfer_checks (of_book b) x) tt e
+
+  lift_passed : own places b up ≡ 0 → (first (lift_checks scale (of_book b) (lift_part x)) ≡ 0) × (length lifted.pieces ≤ places)
+  unfolding lift_checks
+  lift_passed e = accepted_own places b (lift_motion scale (lift_part x)) (lift_checks scale (of_book b) (lift_part x)) tt e
+
+  module _ (weighty : All (λ p. 1 ≤ p.weight) b.pieces) (beyond : b.vessels ≤ scale) (bare : held scale b.pieces ≡ 0) where
+    -- where the lift passes its checks
+    module _ (clear : first (lift_checks scale (of_book b) (lift_part x)) ≡ 0) where
+      fits : LiftFit scale (of_book b) (lift_part x)
+      fits = lift_fit scale (of_book b) (lift_part x) clear
+
+      -- all that was lifted is on the scale, and another vessel holds what it held
+      on_scale : held scale lifted.pieces ≡ x.weight
+      on_scale = grind (arith, nat_tests, held_after b b.rule (lift_motion scale (lift_part x)) scale, fits.source_in)
+
+      in_others : x.source ≢ x.destination → x.destination < b.vessels → held x.destination lifted.pieces ≡ held x.destination b.pieces
+      in_others apart inside = grind (arith, nat_tests, held_after b b.rule (lift_motion scale (lift_part x)) x.destination)
+
+      same_pieces : pieces_after lifted as_they_lie (tip_on scale lifted (tip_part x)) ≡ pieces_after b b.rule (motion_of x)
+      unfolding takes taken
+      same_pieces =
+          let lift = lift_motion scale (lift_part x) in
+          let tip = tip_on scale lifted (tip_part x) in
+          let fair = (takes_law b b.rule lift).fair in
+          let still = handed_all lift.moves b.pieces _ fair (λ p. 1 ≤ p.weight) (λ p. 1 ≤ p.weight) (λ p w u q. u) (λ p q. q) (λ p e q. q) (λ u. u) weighty in
+          let rest = (fair.keeps (λ p. p.holder ≢ scale) (λ p w u q. q) (none_held scale b.pieces weighty bare)).0 in
+          ap (handed tip.moves) (sweeps tip.moves lifted.pieces still refl) ∙ passed_on lift.moves tip.moves (motion_of x).moves (takes b b.rule lift) rest refl refl refl refl
+
+      next_is : down.next lifted ≡ whole.next b
+      next_is = λ i. record { rule = b.rule; vessels = b.vessels; last = x.minute; accepted = add-zero (b.accepted + 1) i; pieces = same_pieces i }
+
+      table_is : (t : List ℕ) → down.table lifted (up.table b t) ≡ whole.table b t
+      table_is t =
+          lay_again lifted.pieces (pieces_after lifted as_they_lie (tip_on scale lifted (tip_part x))) t (tip_length scale lifted (tip_part x))
+          ∙ ap (λ (ps : List Piece). lay ps t) same_pieces
+
+      -- the tip's number: what was lifted is there and no time has passed, so that the destination alone decides; and so it is with the transfer's
+      tip_is : x.source ≢ x.destination → own places lifted down ≡ first (5 if leb b.vessels x.destination ∷ 9 if ltb TOP (held x.destination b.pieces + x.weight) ∷ [])
+      unfolding tip_checks
+      tip_is apart = grind (arith, nat_tests, on_scale, fits.weighty, in_others apart)
+
+      post_is : length lifted.pieces ≤ places → x.source ≢ x.destination
+          → own places b whole ≡ first (5 if leb b.vessels x.destination ∷ 9 if ltb TOP (held x.destination b.pieces + x.weight) ∷ [])
+      unfolding transfer_checks
+      post_is room apart = grind (arith, nat_tests, fits, same_length)
+
+      post_back : x.source ≡ x.destination → own places b whole ≡ 6
+      unfolding transfer_checks
+      post_back same = grind (arith, nat_tests, fits.source_in)
+
+    -- where nothing is amiss with the destination, the lift's number is the transfer's
+    lift_is : x.destination < b.vessels → x.source ≢ x.destination → held x.destination b.pieces + x.weight ≤ TOP → own places b whole ≡ own places b up
+    unfolding transfer_checks lift_checks
+    lift_is inside apart room = grind (arith, nat_tests, same_length)
+
+    -- a transfer that is accepted has a lift that is
+    lift_accepted : own places b whole ≡ 0 → own places b up ≡ 0
+    lift_accepted e = grind (arith, fit (of_book b) x (post_passed e).0, lift_is)
+
+    decides : own places b up ≡ 0 → x.source ≢ x.destination → own places b whole ≡ own places lifted down
+    decides z apart = let p = lift_passed z in post_is p.0 p.1 apart ∙ sym (tip_is p.0 apart)
+
+    divides : Divides
+    divides = record {
+      both_pass = λ w. let z = lift_accepted w in (z, sym (decides z (fit (of_book b) x (post_passed w).0).apart) ∙ w);
+      same_book = λ w. next_is (lift_passed (lift_accepted w)).0;
+      same_table = λ w. table_is (lift_passed (lift_accepted w)).0;
+      same_answer = same_said;
+      tip_decides = decides;
+      same_vessel = λ z. post_back (lift_passed z).0;
+      lift_decides = λ u w. u (lift_accepted w);
+      lift_number = lift_is;
+    }
+
+-- THE THEOREM, on every sound book, loaded or not, and every number for the scale.
+pub second_scale : (scale places : ℕ) (b : Book) → SoundBook places b → b.vessels ≤ scale → held scale b.pieces ≡ 0 → (x : Transfer) → Divides scale places b x
+second_scale scale places b o beyond bare x = divides scale places b x (all_map (λ p f. f.weighty) o.sound) beyond bare

@@ -1,0 +1,180 @@
+-- BESIDE A LOADED SCALE. "Transfers and reports are now allowed with weight on the scale; 22 is left for lift alone": `loaded_refuses`, `lift_alone`.
+-- Whatever is called but tips, the load stays on the scale as it is, in its order (`load_waits`): a transfer takes from its source and joins the end,
+-- a lift is refused, and a report changes nothing. "A tip brings them in behind all that d received meanwhile": `tip_comes_last`. "Pieces on it are in
+-- no vessel, and no vessel's report includes them": `report_unloaded`. All that on small cases: `tip_behind`, `left_out`, `waited`.
+-- Assumes nothing.
+use Rattle.std.proofs.Common.{◌≡◌, refl, sym, ap, ◌∙◌, ◌≢◌, List, [], ◌∷◌, ◌++◌, map, ℕ, zero, suc, ◌<◌, arith, length, take, replicate}
+use Rattle.std.proofs.lemmas.Bool.Decides.{nat_tests}
+use Rattle.table.specs.declared.Piece.{Piece}
+use Rattle.table.specs.Pieces.{hand_to}
+use Rattle.table.specs.Table.{pieces_of, flat, places_of, lay}
+use Rattle.taking.specs.Selection.{precedes}
+use Rattle.taking.specs.Taking.{take_up_to, taken}
+use Rattle.taking.specs.Sweeping.{held_by, elsewhere}
+use Rattle.taking.proofs.Handed.{handed_others}
+use Rattle.refusal.specs.Numbers.{first}
+use Rattle.book.specs.declared.Head.{Head}
+use Rattle.book.specs.declared.Transfer.{Transfer}
+use Rattle.book.specs.declared.Lift.{Lift}
+use Rattle.book.specs.declared.Tip.{Tip}
+use Rattle.book.specs.declared.Report.{Report}
+use Rattle.book.specs.declared.Report.TheVariants.{Held, Spread, Whole}
+use Rattle.book.specs.Head.{Book, the_scale, book_of, tab, balances_of, every, same, adds_up, opening}
+use Rattle.book.specs.Motion.{takes}
+use Rattle.book.specs.Transfer.{transfer_of, transfer_checks, motion_of}
+use Rattle.book.specs.Scale.{lift_of, tip_of, lift_checks, tip_checks}
+use Rattle.book.specs.Reports.{rows, report_row, report_checks, onto}
+use Rattle.book.specs.Calls.{Call, post, lift, tip, ask, meaning}
+use Rattle.book.specs.Memory.{Outcome, number_of, book_checks, call_on}
+use Rattle.book.specs.Lists.{Journal, calls_on, tips_in, tips, numbers}
+use Rattle.book.proofs.Sound.{takes_law}
+use Rattle.book.proofs.Memory.{call_number, accepted_on, refused_memory, on_number, number_split, number_same, passed_book, book_passed, back, in_step}
+use Rattle.book.proofs.Known.{adds_up_told, adds_sound, adds_on}
+use Rattle.book.proofs.InWords.{accepted_book, post_fit, fit_lift, tip_in_words}
+use Rattle.book.proofs.ReportLaws.{row_unloaded}
+use Rattle.book.proofs.Scale.{post_scale}
+use Rattle.book.proofs.Cases.{Case, called, seen, pieces}
+
+-- what is on the scale, in the order it lies
+abbrev pub load : Head → List ℕ → List Piece
+load h t = held_by the_scale (book_of h t).pieces
+
+module _ (h : Head) (t : List ℕ) where
+  -- an accepted call leaves the book that it means
+  left_book : (c : Call) → number_of h t c ≡ 0 → book_of (call_on h t c).head (call_on h t c).table ≡ (meaning c).next (book_of h t)
+  left_book c e =
+      let a = accepted_book h t c e in
+      let s = in_step (places_of t) h t (book_of h t) (adds_on h t a) (adds_sound h t a) c in
+      let z = sym (number_same (places_of t) h t (book_of h t) (adds_on h t a) (adds_sound h t a) c) ∙ e in
+      rw z at (back (places_of t) _ _ _ s.holds s.sound)
+
+  -- "22 is left for lift alone"
+  pub loaded_refuses : 0 < h.scale → first (book_checks h t) ≡ 0 → (x : Lift) → number_of h t (lift x) ≡ 22
+  unfolding lift_checks
+  loaded_refuses u e x = let a = adds_up_told h t (book_passed h t e).1 in grind (arith, nat_tests, a.scale_is, on_number h t (lift x) 0 (sym e) refl)
+
+  pub lift_alone : (x : Transfer) (y : Tip) (q : Report) (room : List ℕ) → (number_of h t (post x) ≢ 22) × (number_of h t (tip y) ≢ 22) × (number_of h t (ask q room) ≢ 22)
+  unfolding book_checks transfer_checks tip_checks report_checks
+  lift_alone x y q room = grind (arith, number_split h t (post x), number_split h t (tip y), number_split h t (ask q room))
+
+  -- What is on the scale stays there, whatever is called but a tip.
+  module _ (loaded : h.scale ≢ 0) where
+    pub load_stays : (c : Call) → tips_in c ≡ 0 → load (call_on h t c).head (call_on h t c).table ≡ load h t
+    load_stays c untipped = go (number_of h t c) refl
+      where
+        accepted : (c : Call) → tips_in c ≡ 0 → number_of h t c ≡ 0 → held_by the_scale ((meaning c).next (book_of h t)).pieces ≡ load h t
+        accepted (post x) u e =
+            let f = post_fit h t x e in
+            let few = (accepted_book h t (post x) e).vessels_fit in
+            handed_others (motion_of x).moves _ _ (takes_law (book_of h t) h.rule (motion_of x)).fair the_scale
+            (λ s. omega (arith, f.source_in)) (λ s. omega (arith, f.destination_in))
+        accepted (lift x) u e = absurd (loaded ((accepted_book h t (lift x) e).scale_is ∙ (fit_lift h t x e).bare))
+        accepted (tip y) u e = absurd (omega arith)
+        accepted (ask q room) u e = refl
+
+        go : (n : ℕ) → number_of h t c ≡ n → load (call_on h t c).head (call_on h t c).table ≡ load h t
+        go zero e = ap (λ (b : Book). held_by the_scale b.pieces) (left_book c e) ∙ accepted c untipped e
+        go (suc n) e = let r = refused_memory h t c (λ z. omega (arith, call_number h t c)) in rw (r.0, r.1) refl
+
+    scale_stays : (c : Call) → tips_in c ≡ 0 → (call_on h t c).head.scale ≡ h.scale
+    unfolding call_on
+    scale_stays (post x) u = post_scale h t x
+    scale_stays (lift x) u = grind (arith, fit_lift h t x, accepted_book h t (lift x))
+    scale_stays (tip y) u = absurd (omega arith)
+    scale_stays (ask q room) u = grind (arith, accepted_book h t (ask q room))
+
+-- WAITING: while no tip is made, what is on the scale stays as it is, in its order.
+pub load_waits : (cs : List Call) (h : Head) (t : List ℕ) → h.scale ≢ 0 → tips cs ≡ 0 → load (calls_on h t cs).head (calls_on h t cs).table ≡ load h t
+unfolding calls_on
+load_waits [] h t loaded u = refl
+load_waits (c ∷ cs) h t loaded u =
+    let o = call_on h t c in
+    let k = scale_stays h t loaded c (omega arith) in
+    load_waits cs o.head o.table (λ z. loaded (sym k ∙ z)) (omega arith) ∙ load_stays h t loaded c (omega arith)
+
+-- "A TIP BRINGS THEM IN BEHIND ALL THAT d RECEIVED MEANWHILE": whatever was called but tips since the scale was loaded, what lay there then, in the
+-- order it lay, is behind all other pieces.
+pub tip_comes_last : (cs : List Call) (h : Head) (t : List ℕ) (y : Tip) → h.scale ≢ 0 → tips cs ≡ 0
+    → let r = calls_on h t cs in
+    let o = call_on r.head r.table (tip y) in
+    o.number ≡ 0 → o.table ≡ lay (elsewhere the_scale (pieces_of r.head.pieces r.table) ++ map (hand_to y.destination) (load h t)) r.table
+tip_comes_last cs h t y loaded u e =
+    let r = calls_on h t cs in
+    rw (← (load_waits cs h t loaded u)) (tip_in_words r.head r.table y e)
+
+-- REPORTS LEAVE THE LOAD OUT: a report's numbers are those of the book without the pieces on the scale.
+pub report_unloaded : (h : Head) (t : List ℕ) (q : Report) (room : List ℕ) → (call_on h t (ask q room)).number ≡ 0
+    → (call_on h t (ask q room)).room ≡ onto (report_row h.vessels (elsewhere the_scale (pieces_of h.pieces t)) q) room
+report_unloaded h t q room z =
+    let e = sym (call_number h t (ask q room)) ∙ z in
+    let few = (accepted_book h t (ask q room) e).vessels_fit in
+    let own = sym (on_number h t (ask q room) 0 (sym (passed_book h t (ask q room) e)) refl) ∙ e in
+    ap (λ (o : Outcome). o.room) (accepted_on h t (ask q room) e) ∙ ap (λ (w : List ℕ). onto w room) (sym (row_unloaded h.vessels few (pieces_of h.pieces t) (length room) q own))
+
+-- a book of three vessels under a rule: two pieces on the scale, each with a piece of another behind it
+abbrev laden : ℕ → Head
+laden rule = record { rule = rule; vessels = 3; pieces = 4; last = 5; accepted = 9; balances = 3 ∷ 5 ∷ replicate 62 0; scale = 6 }
+
+abbrev lying : List ℕ
+lying = 64 ∷ 0 ∷ 5 ∷ 2 ∷ 1 ∷ 2 ∷ 1 ∷ 5 ∷ 64 ∷ 2 ∷ 3 ∷ 4 ∷ 0 ∷ 1 ∷ 2 ∷ 3 ∷ 7 ∷ 7 ∷ []
+
+-- the table, and of the head the scale, the last minute, the count and two balances
+abbrev tipped_into_1 : ℕ → List ℕ
+tipped_into_1 rule = let o = call_on (laden rule) lying (tip (tip_of 1 9)) in o.table ++ (o.head.scale ∷ o.head.last ∷ o.head.accepted ∷ take 2 o.head.balances)
+
+abbrev behind : List ℕ
+behind = 1 ∷ 2 ∷ 1 ∷ 5 ∷ 0 ∷ 1 ∷ 2 ∷ 3 ∷ 1 ∷ 0 ∷ 5 ∷ 2 ∷ 1 ∷ 2 ∷ 3 ∷ 4 ∷ 7 ∷ 7 ∷ 0 ∷ 9 ∷ 9 ∷ 3 ∷ 11 ∷ []
+
+pub tip_behind : map tipped_into_1 (0 ∷ 1 ∷ 2 ∷ 3 ∷ []) ≡ behind ∷ behind ∷ behind ∷ behind ∷ []
+unfolding call_on number_of book_checks adds_up every same balances_of tab places_of pieces_of flat tip_checks takes taken take_up_to precedes
+tip_behind = refl
+
+-- The same book's reports, and the number behind them.
+abbrev reported : Report → List ℕ
+reported q = (call_on (laden 0) lying (ask q (replicate 10 7))).room
+
+abbrev vessels_only : List (List ℕ)
+vessels_only = (0 ∷ 3 ∷ 0 ∷ replicate 7 7) ∷ (0 ∷ 5 ∷ 0 ∷ replicate 7 7) ∷ (0 ∷ 3 ∷ 0 ∷ 0 ∷ 0 ∷ 5 ∷ 0 ∷ 0 ∷ 0 ∷ 7 ∷ []) ∷ []
+
+-- and of 64 vessels, where the scale's number would be behind the row
+abbrev all_vessels : Head
+all_vessels = record { rule = 0; vessels = 64; pieces = 1; last = 5; accepted = 1; balances = replicate 64 0; scale = 7 }
+
+pub left_out : (map reported (Held 0 ∷ Spread 2 0 9 ∷ Whole ∷ []) ≡ vessels_only)
+    × ((call_on all_vessels (64 ∷ 63 ∷ 5 ∷ 7 ∷ []) (ask (Spread 63 0 9) (replicate 65 7))).room ≡ replicate 64 0 ++ (7 ∷ []))
+unfolding call_on number_of book_checks adds_up every same balances_of tab places_of pieces_of flat report_checks rows
+left_out = (refl, refl)
+
+-- What waits on the scale: part of two lots of vessel 0, which gives and receives meanwhile, gets it back behind what it received, and gives by that.
+-- (Had the tip left it where it lay, rules 0 and 1 would pick otherwise.)
+abbrev waiting : List Call
+waiting =
+    post (transfer_of 1 0 1 4 0)
+    ∷ post (transfer_of 2 0 2 3 0)
+    ∷ lift (lift_of 0 3 5 0)
+    ∷ post (transfer_of 0 1 4 1 0)
+    ∷ lift (lift_of 1 4 1 0)
+    ∷ ask Whole (replicate 9 7)
+    ∷ post (transfer_of 2 0 4 2 0)
+    ∷ []
+
+abbrev returned : List Call
+returned = waiting ++ (tip (tip_of 0 5) ∷ post (transfer_of 0 2 5 4 0) ∷ [])
+
+abbrev answers : Journal → List ℕ
+answers r = numbers r.log
+
+unfoldable pub cases : List Case
+cases =
+    called 0 returned answers (0 ∷ 0 ∷ 0 ∷ 0 ∷ 22 ∷ 0 ∷ 0 ∷ 0 ∷ [])
+    ∷ called 0 waiting pieces (0 ∷ 2 ∷ 2 ∷ 1 ∷ 64 ∷ 1 ∷ 1 ∷ 4 ∷ 64 ∷ 2 ∷ 2 ∷ 1 ∷ 1 ∷ 2 ∷ 2 ∷ 1 ∷ 0 ∷ 2 ∷ 4 ∷ 2 ∷ 0 ∷ [])
+    ∷ called 1 waiting pieces (0 ∷ 1 ∷ 1 ∷ 1 ∷ 64 ∷ 2 ∷ 2 ∷ 3 ∷ 64 ∷ 1 ∷ 1 ∷ 2 ∷ 1 ∷ 1 ∷ 1 ∷ 1 ∷ 0 ∷ 2 ∷ 4 ∷ 2 ∷ 0 ∷ [])
+    ∷ called 0 returned pieces (1 ∷ 2 ∷ 2 ∷ 1 ∷ 0 ∷ 1 ∷ 1 ∷ 3 ∷ 0 ∷ 2 ∷ 2 ∷ 1 ∷ 2 ∷ 2 ∷ 2 ∷ 1 ∷ 2 ∷ 2 ∷ 4 ∷ 2 ∷ 2 ∷ 1 ∷ 1 ∷ 1 ∷ 0 ∷ [])
+    ∷ called 1 returned pieces (0 ∷ 1 ∷ 1 ∷ 1 ∷ 1 ∷ 1 ∷ 1 ∷ 1 ∷ 0 ∷ 2 ∷ 4 ∷ 2 ∷ 0 ∷ 2 ∷ 2 ∷ 1 ∷ 2 ∷ 1 ∷ 1 ∷ 2 ∷ 2 ∷ 2 ∷ 2 ∷ 2 ∷ 0 ∷ [])
+    ∷ called 2 returned pieces (0 ∷ 2 ∷ 2 ∷ 1 ∷ 1 ∷ 2 ∷ 2 ∷ 1 ∷ 0 ∷ 2 ∷ 4 ∷ 2 ∷ 0 ∷ 2 ∷ 2 ∷ 1 ∷ 2 ∷ 1 ∷ 1 ∷ 4 ∷ 1 ∷ [])
+    ∷ called 3 returned pieces (0 ∷ 1 ∷ 1 ∷ 1 ∷ 1 ∷ 1 ∷ 1 ∷ 1 ∷ 0 ∷ 2 ∷ 2 ∷ 1 ∷ 0 ∷ 1 ∷ 1 ∷ 2 ∷ 2 ∷ 2 ∷ 4 ∷ 2 ∷ 2 ∷ 2 ∷ 2 ∷ 2 ∷ 0 ∷ [])
+    ∷ []
+
+pub waited : map seen cases ≡ map (λ c. c.wanted) cases
+unfolding cases calls_on call_on number_of book_checks adds_up every same balances_of tab places_of pieces_of flat opening transfer_checks lift_checks tip_checks takes taken take_up_to precedes report_checks rows
+waited = refl
