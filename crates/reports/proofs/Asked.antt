@@ -1,7 +1,6 @@
 -- A report on head and table: its refusals, and its acceptance on a book known to add up. One law for all three reports.
 -- Assumes nothing.
-use Rattle.std.proofs.Common.{◌≡◌, refl, sym, ap, ◌∙◌, false, List, ◌∷◌, ℕ, ◌*◌, ◌≤◌, arith, ltb, length, ltb-false}
-use Rattle.table.specs.Pieces.{held}
+use Rattle.std.proofs.Common.{◌≡◌, refl, sym, ◌∙◌, List, ℕ, ◌*◌, ◌≤◌, arith, length}
 use Rattle.table.specs.Table.{pieces_of}
 use Rattle.table.proofs.Pieces.{all_map}
 use Rattle.refusal.specs.Numbers.{first}
@@ -10,17 +9,15 @@ use Rattle.refusal.specs.Refusals as Refusals
 use Rattle.refusal.proofs.Refusals.{some_number}
 use Rattle.book.specs.declared.Head.{Head}
 use Rattle.book.specs.declared.Reply.{Reply}
-use Rattle.book.specs.Head.{the_scale, Sized}
-use Rattle.book.specs.Motion.{Standing, of_head, loaded}
+use Rattle.book.specs.Head.{Sized}
 use Rattle.book.specs.Calls.{ask}
 use Rattle.book.specs.Memory.{book_checks, number_of, call_on}
 use Rattle.book.specs.Reports.{report_row, report_checks, onto}
 use Rattle.book.specs.declared.Report.{Report}
 use Rattle.book.specs.declared.Report.TheVariants.{Whole}
 use Rattle.book.proofs.Memory.{refused_on, off_number, on_number, passed_book, book_passed}
-use Rattle.book.proofs.HeadLaws.{in_vessels}
 use Rattle.book.proofs.ReportLaws.{whole_room}
-use Rattle.book.proofs.Known.{Known, adds_up_told, adds_head, known, standing_same}
+use Rattle.book.proofs.Known.{Known, adds_up_told, adds_head, known}
 use Rattle.reports.specs.Asking.{Judged, Asks}
 use Rattle.filling.specs.Scatter.{Reportable}
 
