@@ -13,6 +13,7 @@ mod no_movements;
 mod one_pass;
 mod order;
 mod scale;
+mod scale_beside;
 mod scale_books;
 mod scale_limits;
 mod scale_order;
