@@ -17,6 +17,7 @@ mod scale_beside;
 mod scale_books;
 mod scale_limits;
 mod scale_order;
+mod scale_rests;
 mod second_scale;
 mod sheet_order;
 mod sheets;
