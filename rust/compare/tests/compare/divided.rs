@@ -3,8 +3,8 @@
 //! is bare, they are by it too.
 
 use crate::books::LONG;
-use crate::second_scale::{by_hand, Halves, Left};
-use calls::{Engine, Head, Transfer, TOP};
+use crate::second_scale::{by_hand, Left, Refused};
+use calls::{Engine, Head, Transfer, Transferred, TOP};
 use compare::{book, loaded_book, subjects, transfer_for, Pair, Random};
 use std::collections::BTreeMap;
 
@@ -45,17 +45,17 @@ fn by_lift(lift: u32, head: &Head, t: Transfer) -> u32 {
 }
 
 /// A transfer divided by the book's own scale, which is bare.
-fn by_calls(pair: &mut Pair, head: Head, table: &[u32], t: Transfer) -> Halves {
+fn by_calls(pair: &mut Pair, head: Head, table: &[u32], t: Transfer) -> Result<Left, Refused> {
     let mut table = table.to_vec();
     let lifted = pair.lift(head, &mut table, t.lift());
     if lifted.number != 0 {
-        return Halves::LiftRefused(lifted.number);
+        return Err(Refused::Lift(lifted.number));
     }
     let tipped = pair.tip(lifted.head, &mut table, t.tip());
     if tipped.number != 0 {
-        return Halves::TipRefused(tipped.number);
+        return Err(Refused::Tip(tipped.number));
     }
-    Halves::Both(Left {
+    Ok(Left {
         head: tipped.head,
         table,
         counts: [lifted.whole, lifted.split, lifted.born],
@@ -82,34 +82,43 @@ impl Covered {
         }
         let answer = pair.transfer(head, table, t);
         let lift = match halves {
-            Halves::LiftRefused(number) => number,
+            Err(Refused::Lift(number)) => number,
             _ => 0,
         };
         let number = by_lift(lift, &head, t);
         assert_eq!(answer.number, number, "{head:?} {t:?}");
         match halves {
-            Halves::LiftRefused(lift) if lift == number => add(&mut self.by_lift, number),
-            Halves::LiftRefused(_) => add(&mut self.sooner, number),
-            _ if number == 6 => self.back += u32::from(matches!(halves, Halves::Both(_))),
-            Halves::TipRefused(tip) => {
+            Err(Refused::Lift(_)) if lift == number => add(&mut self.by_lift, number),
+            Err(Refused::Lift(_)) => add(&mut self.sooner, number),
+            _ if number == 6 => self.back += u32::from(halves.is_ok()),
+            Err(Refused::Tip(tip)) => {
                 assert_eq!(tip, number, "{head:?} {t:?}");
                 add(&mut self.by_tip, number);
             }
-            Halves::Both(left) => {
+            Ok(left) => {
                 let counts = [answer.whole, answer.split, answer.born];
-                let answered = (answer.head, &*table, counts);
+                let table = table.to_vec();
+                let head = answer.head;
                 assert_eq!(
-                    answered,
-                    (left.head, &left.table[..], left.counts),
-                    "{head:?} {t:?}"
+                    Left {
+                        head,
+                        table,
+                        counts
+                    },
+                    left,
+                    "{t:?}"
                 );
-                let rule = head.rule as usize;
-                self.even[rule] += u32::from(answer.even());
-                self.splits[rule] += answer.split;
-                self.births[rule] += u32::from(answer.born > 0);
+                self.add_accepted(&answer);
             }
         }
         answer.head
+    }
+
+    fn add_accepted(&mut self, answer: &Transferred) {
+        let rule = answer.head.rule as usize;
+        self.even[rule] += u32::from(answer.even());
+        self.splits[rule] += answer.split;
+        self.births[rule] += u32::from(answer.born > 0);
     }
 
     fn expect(&self, by_lift: &[u32], at_least: u32) {
@@ -122,21 +131,17 @@ impl Covered {
     }
 }
 
-/// Some transfers on a book, counted by its scale.
+/// Some transfers on a book: it stays bare, or it stays loaded.
 fn transfers_on(
     (mut head, mut table): (Head, Vec<u32>),
     pair: &mut Pair,
     random: &mut Random,
-    [bare, loaded]: &mut [Covered; 2],
+    covered: &mut [Covered; 2],
 ) {
     for _ in 0..3 {
         let t = transfer_for(random, &head, &table);
-        let covered = if head.scale > 0 {
-            &mut *loaded
-        } else {
-            &mut *bare
-        };
-        head = covered.check(pair, head, &mut table, t);
+        let loaded = usize::from(head.scale > 0);
+        head = covered[loaded].check(pair, head, &mut table, t);
     }
 }
 

@@ -154,32 +154,32 @@ fn reports(
 
 /// What the reports say after `MEANWHILE`: held of vessel 0, spread of origin 1 at any minute, whole; and
 /// whole after the tip.
-const SAID: [([u32; 3], [u32; 3], [u32; 9], [u32; 9]); 2] = [
-    (
-        [0, 0, 2],
-        [0, 0, 0],
-        [0, 0, 2, 0, 0, 6, 0, 0, 0],
-        [0, 0, 2, 0, 4, 7, 0, 0, 0],
-    ),
-    (
-        [0, 2, 0],
-        [2, 0, 0],
-        [0, 2, 0, 0, 0, 6, 0, 0, 0],
-        [0, 2, 0, 0, 2, 9, 0, 0, 0],
-    ),
+const SAID: [[&[u32]; 4]; 2] = [
+    [
+        &[0, 0, 2],
+        &[0, 0, 0],
+        &[0, 0, 2, 0, 0, 6, 0, 0, 0],
+        &[0, 0, 2, 0, 4, 7, 0, 0, 0],
+    ],
+    [
+        &[0, 2, 0],
+        &[2, 0, 0],
+        &[0, 2, 0, 0, 0, 6, 0, 0, 0],
+        &[0, 2, 0, 0, 2, 9, 0, 0, 0],
+    ],
 ];
 
 #[test]
 fn reports_beside_a_loaded_scale() {
     for engine in engines() {
         for rule in 0..4 {
-            let (held, spread, whole, tipped) = SAID[rule as usize % 2];
+            let [held, spread, whole, tipped] = SAID[rule as usize % 2];
             let mut desk = Desk::open(engine, rule, 3);
             for call in [FIRST, THEN, FIVE, MEANWHILE] {
                 assert_eq!(desk.call(&call), 0);
             }
             let said = reports(engine, &desk, 0, (1, (0, TOP)));
-            assert_eq!(said, [&held[..], &spread, &whole]);
+            assert_eq!(said, [held, spread, whole]);
             // All that was on the scale is missing.
             assert_eq!((whole.iter().sum::<u32>(), desk.head.scale), (8, 5));
             assert_eq!(desk.tip(Tip::new([1, 5])), 0);

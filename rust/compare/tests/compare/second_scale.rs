@@ -8,18 +8,14 @@ use second::WeighBook;
 /// The holder number of a second scale.
 const SECOND_SCALE: u32 = SCALE + 1;
 
-/// What a lift and its tip in succession came to.
-#[derive(Debug, PartialEq)]
-pub enum Halves {
-    /// The lift was refused, with this number.
-    LiftRefused(u32),
-    /// The lift was accepted and the tip refused, with this number.
-    TipRefused(u32),
-    /// Both were accepted.
-    Both(Left),
+/// Which half of a divided transfer was refused, with its number.
+#[derive(Clone, Copy, Debug, PartialEq)]
+pub enum Refused {
+    Lift(u32),
+    Tip(u32),
 }
 
-/// What an accepted lift and its tip leave.
+/// What a lift and its tip in succession leave.
 #[derive(Debug, PartialEq)]
 pub struct Left {
     pub head: Head,
@@ -34,7 +30,7 @@ fn picked(rule: u32, pieces: &[Piece], vessel: u32) -> Option<usize> {
     let birth = |&i: &usize| pieces[i].birth;
     match rule {
         0 => held.next(),
-        1 => held.last(),
+        1 => held.next_back(),
         // On a tie these give the first and the last.
         2 => held.min_by_key(birth),
         _ => held.max_by_key(birth),
@@ -86,23 +82,23 @@ fn weigh_book(head: &Head) -> WeighBook {
 }
 
 /// A transfer on a book that adds up, divided by the second scale.
-pub fn by_hand(head: &Head, table: &[u32], t: Transfer) -> Halves {
+pub fn by_hand(head: &Head, table: &[u32], t: Transfer) -> Result<Left, Refused> {
     if table.len() < 4 {
-        return Halves::LiftRefused(Refusal::TableShort.number());
+        return Err(Refused::Lift(Refusal::TableShort.number()));
     }
     let mut book = weigh_book(head);
     let number = book.feed_lift(t.lift());
     if number != 0 {
-        return Halves::LiftRefused(number);
+        return Err(Refused::Lift(number));
     }
     let mut pieces: Vec<Piece> = Piece::all(head, table).collect();
     let counts = lift(head.rule, &mut pieces, t.lift());
     if pieces.len() > places(table) {
-        return Halves::LiftRefused(Refusal::TableFull.number());
+        return Err(Refused::Lift(Refusal::TableFull.number()));
     }
     let number = book.feed_tip(t.tip());
     if number != 0 {
-        return Halves::TipRefused(number);
+        return Err(Refused::Tip(number));
     }
     let pieces = tipped(pieces.into_iter(), SECOND_SCALE, t.destination);
     let mut head = Head {
@@ -118,7 +114,7 @@ pub fn by_hand(head: &Head, table: &[u32], t: Transfer) -> Halves {
     for (place, piece) in table.chunks_exact_mut(4).zip(&pieces) {
         place.copy_from_slice(&piece.numbers());
     }
-    Halves::Both(Left {
+    Ok(Left {
         head,
         table,
         counts,

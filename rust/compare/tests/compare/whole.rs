@@ -14,7 +14,7 @@ const FILLINGS: [[bool; 2]; 4] = [[false, false], [true, false], [false, true], 
 /// The holder and the origin of a piece of a book: any two of its vessels. In a loaded book every third
 /// piece is on the scale, and the origins of those go round.
 fn holder_and_origin(random: &mut Random, vessels: u32, loaded: bool, i: usize) -> [u32; 2] {
-    if loaded && i % 3 == 0 {
+    if loaded && i.is_multiple_of(3) {
         return [SCALE, i as u32 / 3 % vessels];
     }
     [random.below(vessels), random.below(vessels)]
