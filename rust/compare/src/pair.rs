@@ -4,10 +4,10 @@ mod reports;
 mod scale;
 mod sheets;
 
-pub use scale::{load, tipped};
+pub use scale::tipped;
 
-use crate::{Ages, Tally};
-use calls::{places, Engine, Head, Opened, Refusal, Transfer, Transferred};
+use crate::{held_by, Ages, Tally};
+use calls::{places, Engine, Head, Opened, Refusal, Transfer, Transferred, SCALE};
 use second::Second;
 use std::fmt::Debug;
 
@@ -114,12 +114,11 @@ impl Pair {
 
     /// A transfer. What is on the scale stays there as it was, in its order.
     pub fn transfer(&mut self, head: Head, table: &mut [u32], t: Transfer) -> Transferred {
-        let load_before = load(&head, table);
+        let load = held_by(&head, table, SCALE);
         let answer = self.moving("transfer", head, table, t, &|engine, table, t| {
             engine.transfer(head, table, t)
         });
-        let load_after = load(&answer.head, table);
-        assert_eq!(load_after, load_before, "{head:?} {t:?}");
+        assert_eq!(held_by(&answer.head, table, SCALE), load, "{head:?} {t:?}");
         assert_eq!(answer.head.scale, head.scale);
         self.note_beside("transfer", &head, answer.number);
         answer

@@ -4,12 +4,6 @@ use super::{guarded, Pair};
 use calls::{places, Engine, Head, Lift, Piece, Tip, Tipped, Transferred, SCALE};
 use second::Second;
 
-/// The pieces on the scale, in order.
-pub fn load(head: &Head, table: &[u32]) -> Vec<Piece> {
-    let all = Piece::all(head, table);
-    all.filter(|p| p.holder == SCALE).collect()
-}
-
 /// A book without what is on its scale.
 pub(super) fn without_load(head: &Head, table: &[u32]) -> (Head, Vec<u32>) {
     let others = Piece::all(head, table).filter(|p| p.holder != SCALE);

@@ -1,8 +1,8 @@
 //! Calls on books: any table, any head, any argument.
 
-use calls::{Head, Piece, Refusal, Transfer, Transferred, SCALE, TOP};
+use calls::{Head, Refusal, Transfer, Transferred, SCALE, TOP};
 use compare::{
-    book, foul_book, lift_for, loaded_book, near, report_room, room, subjects, tip_for,
+    book, foul_book, held_by, lift_for, loaded_book, near, report_room, room, subjects, tip_for,
     transfer_for, Pair, Random, FOUL_CLAUSES,
 };
 
@@ -53,8 +53,8 @@ impl Moves {
 
 /// Whether a rule by birth finds two pieces of a vessel born at the same minute.
 pub fn tied(head: &Head, table: &[u32], vessel: u32) -> bool {
-    let held = Piece::all(head, table).filter(|p| p.holder == vessel);
-    let mut births: Vec<u32> = held.map(|p| p.birth).collect();
+    let held = held_by(head, table, vessel);
+    let mut births: Vec<u32> = held.iter().map(|p| p.birth).collect();
     births.sort_unstable();
     head.rule >= 2 && births.windows(2).any(|w| w[0] == w[1])
 }
@@ -124,12 +124,10 @@ fn calls_on_books_that_add_up() {
         pair.tally.expect("held", &[0, 1, 5, 13], 100);
         pair.tally.expect("spread", &[0, 1, 5, 12, 13], 100);
         pair.tally.expect("whole", &[0, 1, 13], 100);
-        beside.expect("transfer", &[0, 5, 6, 7, 8, 9, 10, 11, 21], 100);
-        beside.expect("held", &[0, 5, 13], 100);
-        beside.expect("spread", &[0, 5, 12, 13], 100);
-        for whole in ["whole", "whole by rows"] {
-            beside.expect(whole, &[0, 13], 100);
-        }
+        beside.expect("transfer", &[0, 5, 6, 7, 8, 9, 10, 11, 21], 500);
+        beside.expect("held", &[0, 5, 13], 500);
+        beside.expect("spread", &[0, 5, 12, 13], 500);
+        beside.expect("whole", &[0, 13], 500);
     }
 }
 

@@ -2,8 +2,8 @@
 //! they were, in their order, and its tip lays them behind all that the vessel received meanwhile.
 
 use crate::books::{lengths, reports, LONG};
-use calls::{Engine, Head, Piece, Refusal, Tip};
-use compare::{book, lift_for, load, loaded_book, subjects, transfer_for, Pair, Random};
+use calls::{Engine, Head, Piece, Refusal, Tip, SCALE};
+use compare::{book, held_by, lift_for, loaded_book, subjects, transfer_for, Pair, Random};
 use std::collections::BTreeSet;
 
 /// What went on beside loads, and how they were tipped.
@@ -33,12 +33,6 @@ struct Rest<'r> {
     /// The vessel where the load came from, and those that received something beside it.
     source: u32,
     receivers: BTreeSet<u32>,
-}
-
-/// The pieces of a vessel, in order.
-fn held(head: &Head, table: &[u32], vessel: u32) -> Vec<Piece> {
-    let all = Piece::all(head, table);
-    all.filter(|p| p.holder == vessel).collect()
 }
 
 impl Rest<'_> {
@@ -72,7 +66,7 @@ impl Rest<'_> {
     /// A tip: behind what the vessel holds, which is all that it has and received, lies the load.
     fn tip(&mut self) {
         let vessel = self.random.below(self.head.vessels);
-        let mut pieces = held(&self.head, &self.table, vessel);
+        let mut pieces = held_by(&self.head, &self.table, vessel);
         let received = !pieces.is_empty() && self.receivers.contains(&vessel);
         let tip = Tip::new([vessel, self.head.last]);
         let answer = self.pair.tip(self.head, &mut self.table, tip);
@@ -82,7 +76,7 @@ impl Rest<'_> {
                 ..p
             });
             pieces.extend(tipped);
-            assert_eq!(held(&answer.head, &self.table, vessel), pieces);
+            assert_eq!(held_by(&answer.head, &self.table, vessel), pieces);
             let rule = self.head.rule as usize;
             self.covered.behind[rule] += u32::from(received);
             self.covered.back += u32::from(received && vessel == self.source);
@@ -94,7 +88,8 @@ impl Rest<'_> {
         self.covered.several += u32::from(self.load.len() > 1);
         for _ in 0..self.random.from_to(1, 6) {
             self.meanwhile();
-            assert_eq!(load(&self.head, &self.table), self.load);
+            let load = held_by(&self.head, &self.table, SCALE);
+            assert_eq!(load, self.load);
         }
         self.tip();
     }
@@ -114,7 +109,7 @@ fn rest(
         head = pair.lift(head, &mut table, lift).head;
         source = lift.source;
     }
-    let load = load(&head, &table);
+    let load = held_by(&head, &table, SCALE);
     if load.is_empty() {
         return;
     }

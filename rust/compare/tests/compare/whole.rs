@@ -5,7 +5,7 @@
 use crate::desk::{engines, Desk};
 use crate::vectors::SIX;
 use calls::{Engine, Head, Piece, PLACES, SCALE, TOP, VESSELS};
-use compare::{balance_of, load, room, subjects, Pair, Random};
+use compare::{balance_of, held_by, room, subjects, Pair, Random};
 use std::collections::BTreeSet;
 
 /// Each way to fill a book: heavy or not, loaded or not.
@@ -134,7 +134,7 @@ fn every_number_of_vessels() {
             for places in [1, 7, 64, 300] {
                 for filling in FILLINGS {
                     let (head, table) = full_book(&mut random, vessels, places, filling);
-                    origins.extend(load(&head, &table).iter().map(|p| p.origin));
+                    origins.extend(held_by(&head, &table, SCALE).iter().map(|p| p.origin));
                     // A row for the scale would lie in the room.
                     let behind = ((SCALE + 1 - vessels) * vessels) as usize + random.index(9);
                     let report = asked(&mut pair, &mut random, head, &table, behind);
@@ -156,8 +156,8 @@ fn every_number_of_vessels() {
     }
 }
 
-/// 4,096 pieces, also on a table that is longer than that. The room is as long as the rows, or longer by
-/// more than a row for the scale.
+/// 4,096 pieces, also on a table that is longer than that and in a room that is longer than the rows,
+/// by up to more than a row for the scale.
 #[test]
 fn full_tables() {
     for subject in subjects() {
@@ -170,6 +170,9 @@ fn full_tables() {
                     table.extend(room(&mut random, more));
                     let report = asked(&mut pair, &mut random, head, &table, more);
                     assert_eq!(report, added(&head, &table));
+                    if more == 0 {
+                        rows_and_columns(&mut pair, head, &table, &report);
+                    }
                 }
             }
         }
@@ -177,6 +180,9 @@ fn full_tables() {
             .print(&format!("whole, full tables, {}", pair.label()));
         pair.tally.expect("whole", &[0, 13], 96);
         pair.beside.expect("whole", &[0, 13], 48);
+        for report in ["held", "spread"] {
+            pair.beside.expect(report, &[0], 300);
+        }
     }
 }
 

@@ -69,7 +69,7 @@ impl Covered {
         for call in ["transfer", "held", "spread", "whole"] {
             assert!(beside.count(call, 0) > 5_000, "{call}");
         }
-        beside.expect("transfer", &[0, 5, 6, 7, 8, 9, 11, 21], 100);
+        beside.expect("transfer", &[0, 5, 6, 7, 8, 9, 11, 21], 500);
         beside.expect("held", &[0, 5, 13], 100);
         beside.expect("spread", &[0, 5, 12, 13], 100);
         beside.expect("whole", &[0, 13], 100);
