@@ -148,8 +148,8 @@ lumchaki_transferred lumchaki_transfer(lumchaki_head head, uint32_t *table, size
 /* A transfer can be divided: a lift takes the weight onto the scale, a tip empties the scale into a
  * vessel. Both in succession leave what the transfer leaves. Until the tip, what is on the scale is in
  * no vessel: no report includes it, no transfer moves it, and no vessel keeps room for it. Another lift
- * is refused with 22; transfers and reports go on, and a transfer leaves what it would leave by a second,
- * empty scale. No call takes the scale's number for a vessel: that is 5. */
+ * is refused with 22. Transfers and reports go on: a transfer leaves what a lift onto a second, empty
+ * scale and its tip would leave. No call takes the scale's number for a vessel: that is 5. */
 
 /* Lifts weight from source onto the scale at a minute, picked and born as in a transfer. It counts as a
  * transfer. Checks 1, 4, 22, 5, 7, 8, 21, 10, 11. */
