@@ -39,7 +39,7 @@ module _ (h : Head) (t : List ℕ) where
   ps = pieces_of h.pieces t
 
   -- a call that is answered 0 has passed its own checks, on a book that adds up
-  passed_own : (c : Call) → number_of h t c ≡ 0 → first ((meaning c).checks (places_of t) (book_of h t)) ≡ 0
+  pub passed_own : (c : Call) → number_of h t c ≡ 0 → first ((meaning c).checks (places_of t) (book_of h t)) ≡ 0
   passed_own c e = sym (on_number h t c _ refl (passed_book h t c e)) ∙ e
 
   pub accepted_book : (c : Call) → number_of h t c ≡ 0 → AddsUp h t

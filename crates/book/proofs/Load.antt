@@ -1,17 +1,19 @@
 -- BESIDE A LOADED SCALE. "Transfers and reports are now allowed with weight on the scale; 22 is left for lift alone": `loaded_refuses`, `lift_alone`.
 -- Whatever is called but tips, the load stays on the scale as it is, in its order (`load_waits`): a transfer takes from its source and joins the end,
 -- a lift is refused, and a report changes nothing. "A tip brings them in behind all that d received meanwhile": `tip_comes_last`. "Pieces on it are in
--- no vessel, and no vessel's report includes them": `report_unloaded`. All that on small cases: `tip_behind`, `left_out`, `waited`.
+-- no vessel, and no vessel's report includes them": `report_unloaded`. Nor does it play a part in a transfer: `load_apart`. All that on small cases: `tip_behind`, `left_out`, `waited`.
 -- Assumes nothing.
-use Rattle.std.proofs.Common.{◌≡◌, refl, sym, ap, ◌∙◌, ◌≢◌, List, [], ◌∷◌, ◌++◌, map, ℕ, zero, suc, ◌<◌, arith, length, take, replicate}
+use Rattle.std.proofs.Common.{◌≡◌, refl, sym, ap, ◌∙◌, ◌≢◌, List, [], ◌∷◌, ◌++◌, map, ℕ, ◌+◌, ne_eqb, zero, suc, ◌<◌, arith, length, take, replicate}
 use Rattle.std.proofs.lemmas.Bool.Decides.{nat_tests}
 use Rattle.table.specs.declared.Piece.{Piece}
-use Rattle.table.specs.Pieces.{hand_to}
+use Rattle.table.specs.Pieces.{in_vessel, hand_to}
 use Rattle.table.specs.Table.{pieces_of, flat, places_of, lay}
 use Rattle.taking.specs.Selection.{precedes}
 use Rattle.taking.specs.Taking.{take_up_to, taken}
 use Rattle.taking.specs.Sweeping.{held_by, elsewhere}
+use Rattle.taking.proofs.HeldBy.{sum_elsewhere}
 use Rattle.taking.proofs.Handed.{handed_others}
+use Rattle.taking.proofs.Apart.{apart_taken, apart_handed}
 use Rattle.refusal.specs.Numbers.{first}
 use Rattle.book.specs.declared.Head.{Head}
 use Rattle.book.specs.declared.Transfer.{Transfer}
@@ -20,7 +22,7 @@ use Rattle.book.specs.declared.Tip.{Tip}
 use Rattle.book.specs.declared.Report.{Report}
 use Rattle.book.specs.declared.Report.TheVariants.{Held, Spread, Whole}
 use Rattle.book.specs.Head.{Book, the_scale, book_of, tab, balances_of, every, same, adds_up, opening}
-use Rattle.book.specs.Motion.{takes}
+use Rattle.book.specs.Motion.{of_book, takes}
 use Rattle.book.specs.Transfer.{transfer_of, transfer_checks, motion_of}
 use Rattle.book.specs.Scale.{lift_of, tip_of, lift_checks, tip_checks}
 use Rattle.book.specs.Reports.{rows, report_row, report_checks, onto}
@@ -28,9 +30,9 @@ use Rattle.book.specs.Calls.{Call, post, lift, tip, ask, meaning}
 use Rattle.book.specs.Memory.{Outcome, number_of, book_checks, call_on}
 use Rattle.book.specs.Lists.{Journal, calls_on, tips_in, tips, numbers}
 use Rattle.book.proofs.Sound.{takes_law}
-use Rattle.book.proofs.Memory.{call_number, accepted_on, refused_memory, on_number, number_split, number_same, passed_book, book_passed, back, in_step}
+use Rattle.book.proofs.Memory.{call_number, accepted_on, refused_memory, on_number, number_split, number_same, book_passed, back, in_step}
 use Rattle.book.proofs.Known.{adds_up_told, adds_sound, adds_on}
-use Rattle.book.proofs.InWords.{accepted_book, post_fit, fit_lift, tip_in_words}
+use Rattle.book.proofs.InWords.{passed_own, accepted_book, post_fit, fit_lift, tip_in_words}
 use Rattle.book.proofs.ReportLaws.{row_unloaded}
 use Rattle.book.proofs.Scale.{post_scale}
 use Rattle.book.proofs.Cases.{Case, called, seen, pieces}
@@ -102,13 +104,50 @@ tip_comes_last cs h t y loaded u e =
     let r = calls_on h t cs in
     rw (← (load_waits cs h t loaded u)) (tip_in_words r.head r.table y e)
 
+-- the book without the pieces on the scale
+abbrev pub unloaded : Book → Book
+unloaded b = record { rule = b.rule; vessels = b.vessels; last = b.last; accepted = b.accepted; pieces = elsewhere the_scale b.pieces }
+
+module _ (b : Book) (x : Transfer) (source : the_scale ≢ x.source) (destination : the_scale ≢ x.destination) where
+  apart_next : (meaning (post x)).next (unloaded b) ≡ unloaded ((meaning (post x)).next b)
+  unfolding takes
+  apart_next = λ i. record { rule = b.rule; vessels = b.vessels; last = x.minute; accepted = b.accepted + 1; pieces = apart_handed the_scale b.rule (motion_of x).moves b.pieces source destination i }
+
+  apart_answer : (meaning (post x)).answer b ≡ (meaning (post x)).answer (unloaded b)
+  unfolding takes
+  apart_answer = rw (apart_taken the_scale b.rule (motion_of x).moves b.pieces source) refl
+
+  apart_checks : transfer_checks (of_book (unloaded b)) x ≡ transfer_checks (of_book b) x
+  unfolding transfer_checks
+  apart_checks = rw (sum_elsewhere the_scale (in_vessel x.destination) (λ o m. ne_eqb the_scale x.destination destination) b.pieces) refl
+
+-- THE LOAD PLAYS NO PART in a transfer: what it leaves in the vessels is what it leaves on the book without the load, it says the same, and its checks
+-- are the same. (But 11: the pieces on the scale take places.)
+pub load_apart : (h : Head) (t : List ℕ) (x : Transfer) → (call_on h t (post x)).number ≡ 0
+    → let now = book_of h t in
+    let o = call_on h t (post x) in
+    (unloaded (book_of o.head o.table) ≡ (meaning (post x)).next (unloaded now))
+    × (o.answer ≡ (meaning (post x)).answer (unloaded now))
+    × (transfer_checks (of_book now) x ≡ transfer_checks (of_book (unloaded now)) x)
+load_apart h t x w =
+    let z = sym (call_number h t (post x)) ∙ w in
+    let f = post_fit h t x z in
+    let few = (accepted_book h t (post x) z).vessels_fit in
+    let source : the_scale ≢ x.source = λ e. omega (arith, f.source_in) in
+    let destination : the_scale ≢ x.destination = λ e. omega (arith, f.destination_in) in
+    let now = book_of h t in (
+      ap unloaded (left_book h t (post x) z) ∙ sym (apart_next now x source destination),
+      ap (λ (o : Outcome). o.answer) (accepted_on h t (post x) z) ∙ apart_answer now x source destination,
+      sym (apart_checks now x source destination),
+    )
+
 -- REPORTS LEAVE THE LOAD OUT: a report's numbers are those of the book without the pieces on the scale.
 pub report_unloaded : (h : Head) (t : List ℕ) (q : Report) (room : List ℕ) → (call_on h t (ask q room)).number ≡ 0
     → (call_on h t (ask q room)).room ≡ onto (report_row h.vessels (elsewhere the_scale (pieces_of h.pieces t)) q) room
 report_unloaded h t q room z =
     let e = sym (call_number h t (ask q room)) ∙ z in
     let few = (accepted_book h t (ask q room) e).vessels_fit in
-    let own = sym (on_number h t (ask q room) 0 (sym (passed_book h t (ask q room) e)) refl) ∙ e in
+    let own = passed_own h t (ask q room) e in
     ap (λ (o : Outcome). o.room) (accepted_on h t (ask q room) e) ∙ ap (λ (w : List ℕ). onto w room) (sym (row_unloaded h.vessels few (pieces_of h.pieces t) (length room) q own))
 
 -- a book of three vessels under a rule: two pieces on the scale, each with a piece of another behind it

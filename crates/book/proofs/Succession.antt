@@ -159,11 +159,11 @@ succession h t x bare = go (first (book_checks h t)) refl
 -- BESIDE THE LOAD: "a transfer leaves what a lift onto a second, empty scale and its tip would leave", whatever lies on the book's own. The second
 -- scale has any number that is no vessel's and holds nothing.
 pub beside_the_load : (h : Head) (t : List ℕ) (x : Transfer) (scale : ℕ) → h.vessels ≤ scale → held scale (book_of h t).pieces ≡ 0 → (call_on h t (post x)).number ≡ 0
-    → let b = book_of h t in
+    → let now = book_of h t in
     let up = lifting scale (lift_part x) in
     let down = tipping scale (tip_part x) in
     call_on h t (post x)
-    ≡ record { number = 0; answer = up.answer b; head = head_of (down.next (up.next b)); table = down.table (up.next b) (up.table b t); room = []; even = up.even b }
+    ≡ record { number = 0; answer = up.answer now; head = head_of (down.next (up.next now)); table = down.table (up.next now) (up.table now t); room = []; even = up.even now }
 beside_the_load h t x scale beyond empty w =
     let z = sym (call_number h t (post x)) ∙ w in
     let e = passed_book h t (post x) z in

@@ -8,7 +8,6 @@ use Rattle.table.specs.declared.Piece.{Piece}
 use Rattle.table.specs.Pieces.{Kind, in_vessel, sum, All}
 use Rattle.table.proofs.Pieces.{all_map, all_both}
 use Rattle.refusal.specs.Numbers.{TOP}
-use Rattle.book.specs.Head.{tab}
 use Rattle.book.specs.Reports.{from_origin, held_row, born_within, spread_row, rows, onto}
 use Rattle.book.proofs.BalanceLaws.{length_tab, tab_same}
 use Rattle.book.proofs.ReportLaws.{length_row, length_rows, held_room, spread_room, whole_room}
@@ -31,19 +30,19 @@ module _ (size : ℕ) (ps : List Piece) (k : Reportable size ps) where
   pub held_tallied : (v : ℕ) → Tallied (held_by v) origin_of size ps
   held_tallied v = all_map (λ p h c. (h, by_origin_light v p.origin)) k.origins
 
-  -- spread: the pieces that count are in vessels, and at a vessel they are those of its kind
-  holders_inside : (u from to : ℕ) → All (λ p. born u from to p ≡ true → p.holder < size) ps
-  holders_inside u from to = all_map (λ p h c. in_a_vessel size p h (and_parts (off_scale p) _ c).0) k.holders
+  -- what spread counts is in vessels, and of what is in a vessel it leaves nothing out
+  born_inside : (u from to : ℕ) → All (λ p. born u from to p ≡ true → p.holder < size) ps
+  born_inside u from to = all_map (λ p h c. grind (arith, nat_tests)) k.holders
 
-  tally_spread : (u from to v : ℕ) → v < size → tally (born u from to) holder_of ps v ≡ sum (born_within u from to v) ps
-  tally_spread u from to v below = let few = k.few in tally_kind (born u from to) holder_of v (born_within u from to v) (λ p g. grind (arith, nat_tests)) k.holders
+  tally_born : (u from to v : ℕ) → v < size → tally (born u from to) holder_of ps v ≡ sum (born_within u from to v) ps
+  tally_born u from to v h = let few = k.few in tally_kind (born u from to) holder_of v (born_within u from to v) (λ p g. grind (arith, nat_tests)) k.holders
 
   pub spread_tallied : (u from to : ℕ) → Tallied (born u from to) holder_of size ps
-  spread_tallied u from to = all_map (λ p f c. (f c, rw (tally_spread u from to p.holder (f c)) (by_holder_light u from to p.holder))) (holders_inside u from to)
+  spread_tallied u from to = all_map (λ p h c. (h c, rw (tally_born u from to p.holder (h c)) (by_holder_light u from to p.holder))) (born_inside u from to)
 
   pub whole_tallied : Tallied off_scale (cell_of size) (size * size) ps
   whole_tallied =
-      all_map (λ p (f, (h, o)) c. (f c, rw (tally_square size p.holder p.origin k.few (in_a_vessel size p h c) o k.origins) (by_origin_light p.holder p.origin)))
+      all_map (λ p (h, (g, o)) c. (h c, rw (tally_square size p.holder p.origin k.few (in_a_vessel size p g c) o k.origins) (by_origin_light p.holder p.origin)))
       (all_both (cells_inside size k.holders k.origins) (all_both k.holders k.origins))
 
 -- what fills the whole room is all that is left of it
@@ -58,9 +57,7 @@ module _ (room : List ℕ) (ps : List Piece) where
   pub spread_filled : (u from to : ℕ) → Reportable (length room) ps
       → one_pass (length room) (born u from to) holder_of room ps ≡ spread_row (length room) u from to ps
   spread_filled u from to k =
-      let row : tab (tally (born u from to) holder_of ps) 0 (length room) ≡ spread_row (length room) u from to ps
-      = tab_same _ _ 0 0 (length room) (λ v g. rw zero-add (tally_spread (length room) ps k u from to v g)) in
-      scattered _ _ _ room ps (holders_inside (length room) ps k u from to) ∙ rw row (alone _ room (length_tab _ 0 _))
+      scattered _ _ _ room ps (born_inside _ ps k u from to) ∙ alone _ room (length_tab _ 0 _) ∙ tab_same _ _ 0 0 _ (λ v h. rw zero-add (tally_born _ ps k u from to v h))
 
   pub whole_filled : (size : ℕ) → length room ≡ size * size → Reportable size ps → one_pass (length room) off_scale (cell_of size) room ps ≡ rows size 0 size ps
   whole_filled size e k = rw e (rows_in_one_pass size room k.few k.holders k.origins) ∙ alone _ room (length_rows size 0 size ps ∙ sym e)

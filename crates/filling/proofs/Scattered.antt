@@ -56,20 +56,20 @@ module _ (test : Piece → Bool) (at : Piece → ℕ) where
       ext_get_or 0 _ _ (rw length_tab long) (λ j h. let l : j < n = rw long at h in over_zeros n ps j l ∙ sym (row_at (tally test at ps) n j l)) in
       rw length_tab (scatter_left ps (replicate n 0) (drop n room) (rw length-replicate inside) ∙ ap (λ (l : List ℕ). l ++ drop n room) sums)
 
-  -- where the pieces that count at an index are those of a kind, what is tallied for it is the sum of that kind
-  pub tally_kind : (j : ℕ) (k : Kind) {P : Piece → Type 0} → ((p : Piece) → P p → eqb (at p) j && test p ≡ k p.holder p.origin p.birth) → {ps : List Piece} → All P ps → tally test at ps j ≡ sum k ps
-  tally_kind j k f done = refl
-  tally_kind j k f (also {p = p} h x) = rw (f p h) (ap (λ (n : ℕ). only (k p.holder p.origin p.birth) p.weight + n) (tally_kind j k f x))
+  -- what is tallied for an index is the sum of a kind, where the pieces that count there are those of the kind
+  pub tally_kind : {P : Piece → Type 0} (j : ℕ) (k : Kind) → ((p : Piece) → P p → eqb (at p) j && test p ≡ k p.holder p.origin p.birth)
+      → {ps : List Piece} → All P ps → tally test at ps j ≡ sum k ps
+  tally_kind j k same done = refl
+  tally_kind j k same (also h x) = grind (arith, same _ h, tally_kind j k same x)
 
   -- numbers that are all 0 can be filled
   pub fillable : (room r : List ℕ) (ps : List Piece) → r ≡ replicate (length room) 0 → Tallied test at (length room) ps → Fillable test at r ps
-  fillable room r ps e u = rw (e, length-replicate) (all_map (λ p k c. let (l, light) = k c in (l, rw (over_zeros (length room) ps (at p) l) light)) u)
+  fillable room r ps e u = rw (e, length-replicate) (all_map (λ p k c. ((k c).0, rw (over_zeros (length room) ps (at p) (k c).0) (k c).1)) u)
 
   -- The loop, by the pieces left: what entering the first of them asks, and a turn.
   pub may_enter : (r : List ℕ) (p : Piece) (left ps : List Piece) → left ≡ p ∷ ps → Fillable test at r left → Enterable test at r p
   unfolding scatter
-  may_enter r p left ps e f =
-      λ c.
+  may_enter r p left ps e f c =
       let h = all_head (rw e at f) c in
       (h.0, omega (arith, h.1, scatter_at ps (entered test at r p) (at p) (rw length_entered h.0)))
 

@@ -1,6 +1,7 @@
 -- How the code fills a report in one pass: over cleared numbers, each piece that counts is added to the number at its index. For held the
--- index is the origin, for spread the holder, for whole the origin in the row of the holder. What lies on the scale is in no vessel and does not
--- count. proofs/Scattered.antt shows that each number becomes the sum of its kind, proofs/Square.antt that those of whole are its rows.
+-- index is the origin, for spread the holder, for whole the origin in the row of the holder. Pieces on the scale are in no vessel: held is asked
+-- of vessels alone, and spread and whole leave them out. proofs/Scattered.antt shows that each number becomes the sum of its kind,
+-- proofs/Square.antt that those of whole are its rows.
 -- Definitions only. Assumes nothing.
 use Rattle.std.specs.Prelude.{◌≡◌, Bool, true, ◌&&◌, not, cond, List, [], ◌∷◌, ◌++◌, ℕ, ◌+◌, ◌*◌, ◌≤◌, ◌<◌, leb, eqb, length, get_or, set, drop, replicate}
 use Rattle.table.specs.declared.Piece.{Piece}
@@ -45,7 +46,7 @@ held_by v p = eqb p.holder v
 abbrev pub origin_of : Piece → ℕ
 origin_of p = p.origin
 
--- pieces on the scale are in no vessel
+-- whether the piece is in a vessel: those on the scale are in none
 abbrev pub off_scale : Piece → Bool
 off_scale p = not (eqb p.holder the_scale)
 

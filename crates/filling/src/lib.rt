@@ -12,7 +12,7 @@ use book::{Report, SCALE};
 use table::Piece;
 use table::reading::Pieces;
 
-// What a report adds up: which pieces count, and at which number of the room each is entered. Pieces on the scale are in no vessel.
+// What a report adds up: which pieces count, and at which number of the room each is entered.
 trait Tally {
     ghost counted: { Self → Piece → Bool };
 

@@ -29,7 +29,7 @@ all_hand P Q hand done = done
 all_hand P Q hand (also h x) = also (hand _ h.0 h.1) (all_hand P Q hand x)
 
 -- what is handed to another is not held by c
-handed_away : (c d : ℕ) → d ≢ c → (ps : List Piece) → All (λ p. p.holder ≢ c) (map (hand_to d) ps)
+pub handed_away : (c d : ℕ) → d ≢ c → (ps : List Piece) → All (λ p. p.holder ≢ c) (map (hand_to d) ps)
 handed_away c d ne [] = done
 handed_away c d ne (p ∷ ps) = also ne (handed_away c d ne ps)
 

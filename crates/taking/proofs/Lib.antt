@@ -4,3 +4,4 @@ pub mod Handed
 pub mod Rules
 pub mod InTable
 pub mod Sweeping
+pub mod Apart

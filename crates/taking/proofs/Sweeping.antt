@@ -2,7 +2,7 @@
 -- is heavier than what is still wanted: each goes whole, and it ends when none is left, with nothing split and nothing born.
 -- And what was handed over and is then swept and handed on lies as if it had been handed there at once: it lies last, and in its order.
 -- Assumes nothing.
-use Rattle.std.proofs.Common.{◌≡◌, refl, ap, ◌≢◌, Bool, true, false, List, [], ◌∷◌, ◌++◌, map, append-nil, ℕ, zero, suc, ◌+◌, ◌-◌, ◌≤◌, arith, leb, eqb, length, length-append, eqb-true, eq-eqb, ne_eqb, le-leb}
+use Rattle.std.proofs.Common.{◌≡◌, refl, ap, ◌≢◌, Bool, true, false, List, [], ◌∷◌, ◌++◌, map, append-nil, ℕ, zero, suc, ◌+◌, ◌-◌, ◌≤◌, arith, leb, eqb, length, length-append, eqb-true, eq-eqb, le-leb}
 use Rattle.std.proofs.lemmas.Grind.{common_steps}
 use mathlib.Core.List.{map-append, map-map}
 use borrow.Author.Tests.{eqb-false}
@@ -13,15 +13,14 @@ use Rattle.taking.specs.Selection.{Found, nothing, at, wins, select}
 use Rattle.taking.specs.declared.Move.{Move}
 use Rattle.taking.specs.Taking.{Taken, stop, one_whole, take_from, take_found, take_next, take_up_to, taken, newborn, handed}
 use Rattle.taking.specs.Sweeping.{held_by, elsewhere, swept}
+use Rattle.taking.proofs.HeldBy.{held_by_append, none_of_it, elsewhere_append, all_elsewhere}
 use Rattle.taking.proofs.Taking.{Good, select_good}
 use Rattle.taking.proofs.Rules.{rule_0}
 
 module _ (s : ℕ) where
   -- the pieces of others in front are passed over
   past : (b a : List Piece) → All (λ p. p.holder ≢ s) b → (elsewhere s (b ++ a) ≡ b ++ elsewhere s a) × (held_by s (b ++ a) ≡ held_by s a)
-  unfolding held_by elsewhere
-  past [] a h = (refl, refl)
-  past (p ∷ b) a (also h x) = let y = past b a x in rw (ne_eqb p.holder s h) (ap (λ l. p ∷ l) y.0, y.1)
+  past b a h = (rw (elsewhere_append s b a, all_elsewhere s h) refl, rw (held_by_append s b a, none_of_it s h) refl)
 
   -- s has no piece; s has every piece
   swept_none : (ps : List Piece) → All (λ p. p.holder ≢ s) ps → swept s ps ≡ stop 0 ps
