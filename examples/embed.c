@@ -1,6 +1,6 @@
 /* Keeps a book from C: the six movements of the published table under rule 2, a delivery of older flour,
- * and a weighing whose vessel is chosen afterwards, while another baker goes on; the pieces they leave, and
- * whose flour lies in vessel 0. Exits with 1 if anything differs from what was worked out by hand.
+ * and a weighing whose vessel is chosen afterwards, while another baker goes on; the pieces they leave,
+ * and whose flour lies in vessel 0. Exits with 1 if anything differs from what was worked out by hand.
  *
  *   gcc -std=c99 -Wall -Wextra -pedantic -Iinclude examples/embed.c \
  *       crates/lumchaki/out/liblumchaki.a -o /tmp/embed && /tmp/embed */

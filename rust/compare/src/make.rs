@@ -83,19 +83,24 @@ pub fn report_room(random: &mut Random, numbers: u32) -> usize {
     }
 }
 
+/// A source for a transfer: mostly a vessel that holds one of these pieces. No transfer is from the
+/// scale: of a piece there it is where it was born.
+fn source(random: &mut Random, vessels: u32, pieces: &[Piece]) -> u32 {
+    if pieces.is_empty() || random.once_in(4) {
+        return vessel(random, vessels);
+    }
+    let piece = pieces[random.index(pieces.len())];
+    match piece.holder {
+        SCALE => piece.origin,
+        vessel => vessel,
+    }
+}
+
 /// A transfer for a book, aimed at what decides: exact weights, limits, the last minute, births.
 pub fn transfer_for(random: &mut Random, head: &Head, table: &[u32]) -> Transfer {
-    let mut source = vessel(random, head.vessels);
-    let mut destination = vessel(random, head.vessels);
     let pieces: Vec<Piece> = Piece::all(head, table).collect();
-    if !pieces.is_empty() && !random.once_in(4) {
-        // Of what is on the scale, where it was born: no transfer is from there.
-        let piece = pieces[random.index(pieces.len())];
-        source = match piece.holder {
-            SCALE => piece.origin,
-            vessel => vessel,
-        };
-    }
+    let source = source(random, head.vessels, &pieces);
+    let mut destination = vessel(random, head.vessels);
     if source == destination && !random.once_in(8) {
         destination = source.wrapping_add(1) % head.vessels.max(1);
     }

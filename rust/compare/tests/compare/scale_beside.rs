@@ -60,8 +60,8 @@ const BESIDE: [ScaleVector; 4] = [
             ],
         ],
     ),
-    // The vessel that was lifted from gives what it has left, and 1 g is born there; it gets 2 g back, and
-    // then the load. The last transfer picks by that.
+    // The vessel that was lifted from gives what it has left, and 1 g is born there; it gets 2 g back,
+    // and then the load. The last transfer picks by that.
     (
         &[
             FIRST,
@@ -152,8 +152,8 @@ fn reports(
     rooms
 }
 
-/// What the reports say after `MEANWHILE`: held of vessel 0, spread of origin 1 at any minute, whole; and
-/// whole after the tip.
+/// What the reports say after `MEANWHILE`: held of vessel 0, spread of origin 1 at any minute, whole;
+/// and whole after the tip.
 const SAID: [[&[u32]; 4]; 2] = [
     [
         &[0, 0, 2],

@@ -36,8 +36,8 @@ pub fn full_book(
         accepted: places as u32,
         ..Head::ZERO
     };
-    let pieces = (0..places).map(|i| holder_and_origin(random, vessels, loaded, i));
-    let pieces: Vec<[u32; 2]> = pieces.collect();
+    let mut piece = |i| holder_and_origin(random, vessels, loaded, i);
+    let pieces: Vec<[u32; 2]> = (0..places).map(&mut piece).collect();
     let mut to_come = [0; VESSELS + 1];
     for &[holder, _] in &pieces {
         to_come[holder as usize] += 1;
@@ -45,9 +45,8 @@ pub fn full_book(
     let mut table = Vec::new();
     for [holder, origin] in pieces {
         let balance = balance_of(&mut head, holder);
-        let to_come = &mut to_come[holder as usize];
-        *to_come -= 1;
-        let weight = match (heavy, *to_come) {
+        to_come[holder as usize] -= 1;
+        let weight = match (heavy, to_come[holder as usize]) {
             (false, _) => random.from_to(1, 9),
             (true, 0) => TOP - *balance,
             (true, later) => random.from_to(1, (TOP - *balance - later).min(TOP / 2)),
