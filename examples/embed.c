@@ -1,6 +1,6 @@
 /* Keeps a book from C: the six movements of the published table under rule 2, a delivery of older flour,
- * and a weighing whose vessel is chosen afterwards; the pieces they leave, and whose flour lies in vessel
- * 0. Exits with 1 if anything differs from what was worked out by hand.
+ * and a weighing whose vessel is chosen afterwards, while another baker goes on; the pieces they leave,
+ * and whose flour lies in vessel 0. Exits with 1 if anything differs from what was worked out by hand.
  *
  *   gcc -std=c99 -Wall -Wextra -pedantic -Iinclude examples/embed.c \
  *       crates/lumchaki/out/liblumchaki.a -o /tmp/embed && /tmp/embed */
@@ -9,7 +9,7 @@
 #include <stdio.h>
 #include <string.h>
 
-enum { VESSELS = 3, PLACES = 16, MOVEMENTS = 7, PIECES = 5 };
+enum { VESSELS = 3, PLACES = 16, MOVEMENTS = 7, PIECES = 6 };
 
 /* Source, destination, minute, weight, age. The last one needs 3 grams more than vessel 1 has; they
  * were milled 7 minutes before, at minute 2. */
@@ -19,21 +19,27 @@ static const uint32_t movements[MOVEMENTS][5] = {
 };
 
 static const uint32_t expected_pieces[PIECES][4] = {
-    {0, 2, 3, 2}, {2, 1, 5, 4}, {0, 1, 2, 3}, {1, 1, 1, 1}, {1, 1, 1, 2},
+    {0, 2, 3, 2}, {2, 1, 5, 3}, {0, 1, 2, 3}, {1, 1, 5, 1}, {1, 1, 1, 1}, {1, 1, 1, 2},
 };
 
 static const uint32_t expected_held[VESSELS] = {0, 3, 2};
 
-/* Lifts 3 grams of vessel 0 onto the scale, two whole pieces, and tips them into vessel 1. Gives the
- * number of the first of the two that was refused. */
+/* Lifts 3 grams of vessel 0 onto the scale, two whole pieces, and tips them into vessel 1. Meanwhile that
+ * vessel receives a gram of vessel 2, which lies before them then. Gives the number of the first of the
+ * three that was refused. */
 static uint32_t weigh(lumchaki_head *head, uint32_t *table) {
     lumchaki_transferred lifted = lumchaki_lift(*head, table, 4 * PLACES, 0, 9, 3, 0);
+    lumchaki_transferred meanwhile;
     lumchaki_tipped tipped;
     if (lifted.number != LUMCHAKI_ACCEPTED) {
         return lifted.number;
     }
     printf("%u g on the scale\n", (unsigned)lifted.head.scale);
-    tipped = lumchaki_tip(lifted.head, table, 4 * PLACES, 1, 10);
+    meanwhile = lumchaki_transfer(lifted.head, table, 4 * PLACES, 2, 1, 9, 1, 0);
+    if (meanwhile.number != LUMCHAKI_ACCEPTED) {
+        return meanwhile.number;
+    }
+    tipped = lumchaki_tip(meanwhile.head, table, 4 * PLACES, 1, 10);
     *head = tipped.head;
     return tipped.number;
 }
@@ -61,7 +67,7 @@ int main(void) {
     }
 
     if (weigh(&head, table) != LUMCHAKI_ACCEPTED) {
-        fputs("lift or tip refused\n", stderr);
+        fputs("weighing refused\n", stderr);
         return 1;
     }
 

@@ -69,8 +69,8 @@ enum {
     LUMCHAKI_OUTPUT_SHORT = 19, /* "short paper": the room for the sheet is too small */
     LUMCHAKI_PAST_END = 20,     /* "past the end": the movement asked for is not on the sheet */
     LUMCHAKI_BEFORE_TIME = 21,  /* "milled before time": the age is above the minute */
-    LUMCHAKI_SCALE_LOADED = 22, /* "scale loaded": there is weight on the scale */
-    LUMCHAKI_SCALE_BARE = 23    /* "scale bare": there is no weight on the scale */
+    LUMCHAKI_SCALE_LOADED = 22, /* "scale loaded": a lift, while there is weight on the scale */
+    LUMCHAKI_SCALE_BARE = 23    /* "scale bare": a tip, while there is no weight on the scale */
 };
 
 /* The head of a book. A fresh one comes from lumchaki_open. */
@@ -140,14 +140,16 @@ lumchaki_opened lumchaki_open(uint32_t rule, uint32_t vessels);
 
 /* Transfers weight from source to destination at a minute. Pieces of the source are picked by the rule
  * until the weight is reached; what the source lacks is born there. What is born was milled `age`
- * minutes before: its birth minute is minute - age. Checks 1, 4, 22, 5 to 8, 21, 9 to 11. */
+ * minutes before: its birth minute is minute - age. Checks 1, 4, 5 to 8, 21, 9 to 11. */
 lumchaki_transferred lumchaki_transfer(lumchaki_head head, uint32_t *table, size_t table_len,
                                        uint32_t source, uint32_t destination, uint32_t minute,
                                        uint32_t weight, uint16_t age);
 
 /* A transfer can be divided: a lift takes the weight onto the scale, a tip empties the scale into a
- * vessel. Both in succession leave what the transfer leaves. Until the tip, transfers, other lifts and
- * reports are refused with 22. No call takes the scale's number for a vessel: that is 5. */
+ * vessel. Both in succession leave what the transfer leaves. Until the tip, what is on the scale is in
+ * no vessel: no report includes it, no transfer moves it, and no vessel keeps room for it. Another lift
+ * is refused with 22. Transfers and reports go on: a transfer leaves what a lift onto a second, empty
+ * scale and its tip would leave. No call takes the scale's number for a vessel: that is 5. */
 
 /* Lifts weight from source onto the scale at a minute, picked and born as in a transfer. It counts as a
  * transfer. Checks 1, 4, 22, 5, 7, 8, 21, 10, 11. */
@@ -155,23 +157,22 @@ lumchaki_transferred lumchaki_lift(lumchaki_head head, uint32_t *table, size_t t
                                    uint32_t source, uint32_t minute, uint32_t weight, uint16_t age);
 
 /* Tips all that is on the scale into destination at a minute: its pieces move to the end of the table,
- * in the order they lie. The destination may be where they were lifted from. It does not count as a
- * transfer. Checks 1, 4, 23, 5, 8, 9. */
+ * in the order they lie, behind all that destination received meanwhile. The destination may be where
+ * they were lifted from. It does not count as a transfer. Checks 1, 4, 23, 5, 8, 9. */
 lumchaki_tipped lumchaki_tip(lumchaki_head head, uint32_t *table, size_t table_len,
                              uint32_t destination, uint32_t minute);
 
-/* Writes `vessels` numbers: the weight by origin in a vessel. Checks 1, 4, 22, 5, 13. */
+/* Writes `vessels` numbers: the weight by origin in a vessel. Checks 1, 4, 5, 13. */
 lumchaki_reported lumchaki_held(lumchaki_head head, const uint32_t *table, size_t table_len,
                                 uint32_t vessel, uint32_t *report, size_t report_len);
 
 /* Writes `vessels` numbers: the weight in each vessel that was born at an origin from one minute to
- * another, both included. Checks 1, 4, 22, 5, 12, 13. */
+ * another, both included. Checks 1, 4, 5, 12, 13. */
 lumchaki_reported lumchaki_spread(lumchaki_head head, const uint32_t *table, size_t table_len,
                                   uint32_t origin, uint32_t from, uint32_t to, uint32_t *report,
                                   size_t report_len);
 
-/* Writes `vessels` rows of `vessels` numbers: row v is the held report of vessel v. Checks 1, 4, 22,
- * 13. */
+/* Writes `vessels` rows of `vessels` numbers: row v is the held report of vessel v. Checks 1, 4, 13. */
 lumchaki_reported lumchaki_whole(lumchaki_head head, const uint32_t *table, size_t table_len,
                                  uint32_t *report, size_t report_len);
 

@@ -280,7 +280,7 @@ impl Loads {
             engine,
             SQUARE,
             |engine, head, table, report| engine.whole(head, table, report),
-            Book::whole,
+            |second| Ok(second.whole()),
         )
     }
 
@@ -290,7 +290,7 @@ impl Loads {
             engine,
             SQUARE,
             |engine, head, table, report| engine.whole_by_rows(head, table, report),
-            Book::whole,
+            |second| Ok(second.whole()),
         )
     }
 }

@@ -49,9 +49,9 @@ pub enum Refusal {
     PastEnd = 20,
     /// The age is above the minute.
     BeforeTime = 21,
-    /// There is weight on the scale.
+    /// A lift, while there is weight on the scale.
     ScaleLoaded = 22,
-    /// There is no weight on the scale.
+    /// A tip, while there is no weight on the scale.
     ScaleBare = 23,
 }
 

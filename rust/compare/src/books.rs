@@ -73,8 +73,14 @@ fn accepted(random: &mut Random, pieces: u32) -> u32 {
     }
 }
 
+/// The pieces of a holder, in order.
+pub fn held_by(head: &Head, table: &[u32], holder: u32) -> Vec<Piece> {
+    let all = Piece::all(head, table);
+    all.filter(|p| p.holder == holder).collect()
+}
+
 /// The balance of a holder: one of the vessels, or the scale.
-pub(crate) fn balance_of(head: &mut Head, holder: u32) -> &mut u32 {
+pub fn balance_of(head: &mut Head, holder: u32) -> &mut u32 {
     match head.balances.get_mut(holder as usize) {
         Some(balance) => balance,
         None => &mut head.scale,

@@ -83,14 +83,24 @@ pub fn report_room(random: &mut Random, numbers: u32) -> usize {
     }
 }
 
+/// A source for a transfer: mostly a vessel that holds one of these pieces. No transfer is from the
+/// scale: of a piece there it is where it was born.
+fn source(random: &mut Random, vessels: u32, pieces: &[Piece]) -> u32 {
+    if pieces.is_empty() || random.once_in(4) {
+        return vessel(random, vessels);
+    }
+    let piece = pieces[random.index(pieces.len())];
+    match piece.holder {
+        SCALE => piece.origin,
+        vessel => vessel,
+    }
+}
+
 /// A transfer for a book, aimed at what decides: exact weights, limits, the last minute, births.
 pub fn transfer_for(random: &mut Random, head: &Head, table: &[u32]) -> Transfer {
-    let mut source = vessel(random, head.vessels);
-    let mut destination = vessel(random, head.vessels);
     let pieces: Vec<Piece> = Piece::all(head, table).collect();
-    if !pieces.is_empty() && !random.once_in(4) {
-        source = pieces[random.index(pieces.len())].holder;
-    }
+    let source = source(random, head.vessels, &pieces);
+    let mut destination = vessel(random, head.vessels);
     if source == destination && !random.once_in(8) {
         destination = source.wrapping_add(1) % head.vessels.max(1);
     }
@@ -189,10 +199,28 @@ fn weighed_tip(random: &mut Random, book: &WeighBook) -> Tip {
     }
 }
 
-/// A list of calls for a book of so many vessels. It is made without regard to a rule. A lift is
-/// mostly tipped soon, so that few of the other calls meet a loaded scale.
+/// Turns a transfer to a vessel: from it or into it.
+fn turned(random: &mut Random, transfer: Transfer, vessel: u32) -> Transfer {
+    let mut turned = transfer;
+    if random.once_in(2) {
+        turned.source = vessel;
+    } else {
+        turned.destination = vessel;
+    }
+    if turned.source == turned.destination {
+        return transfer;
+    }
+    turned
+}
+
+/// A list of calls for a book of so many vessels. It is made without regard to a rule. In half of the
+/// lists a lift is mostly tipped soon, in the others the scale stays loaded for a while. Beside it
+/// every other transfer is from the vessel that the load came from, or into it.
 pub fn call_list(random: &mut Random, vessels: u32, length: usize) -> Vec<Call> {
     let mut book = WeighBook::new(vessels);
+    let mut lifted_from = 0;
+    // Of 20 calls beside a load that are no reports, so many are tips.
+    let tips = random.one_of(&[16, 16, 4, 2]);
     let mut call = || match random.below(20) {
         0 | 1 => Call::Held(vessel(random, vessels), report_room(random, vessels)),
         2 | 3 => {
@@ -201,16 +229,21 @@ pub fn call_list(random: &mut Random, vessels: u32, length: usize) -> Vec<Call> 
         }
         4 | 5 => Call::Whole(report_room(random, vessels * vessels)),
         kind => {
-            let loaded = book.scale > 0 && !random.once_in(5);
-            if loaded || kind == 6 {
+            let loaded = book.scale > 0;
+            if loaded && random.below(20) < tips || kind == 6 {
                 let tip = weighed_tip(random, &book);
                 book.feed_tip(tip);
                 return Call::Tip(tip);
             }
-            let transfer = weighed_transfer(random, &book);
+            let mut transfer = weighed_transfer(random, &book);
             if kind <= 10 {
-                book.feed_lift(transfer.lift());
+                if book.feed_lift(transfer.lift()) == 0 {
+                    lifted_from = transfer.source;
+                }
                 return Call::Lift(transfer.lift());
+            }
+            if loaded && random.once_in(2) {
+                transfer = turned(random, transfer, lifted_from);
             }
             book.feed(transfer);
             Call::Move(transfer)

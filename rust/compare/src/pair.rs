@@ -1,10 +1,13 @@
 //! Two implementations side by side: the calls on a book.
 
+mod reports;
 mod scale;
 mod sheets;
 
-use crate::{Ages, Tally};
-use calls::{places, Engine, Head, Opened, Reported, Transfer, Transferred};
+pub use scale::tipped;
+
+use crate::{held_by, Ages, Tally};
+use calls::{places, Engine, Head, Opened, Refusal, Transfer, Transferred, SCALE};
 use second::Second;
 use std::fmt::Debug;
 
@@ -64,6 +67,8 @@ pub struct Pair {
     subject: &'static dyn Engine,
     /// What the subject answered so far.
     pub tally: Tally,
+    /// What it answered to transfers and reports beside a loaded scale.
+    pub beside: Tally,
     /// What the ages of its transfers came to.
     pub ages: Ages,
     /// What the ages of its lifts came to.
@@ -79,6 +84,7 @@ impl Pair {
         Pair {
             subject,
             tally: Tally::default(),
+            beside: Tally::default(),
             ages: Ages::default(),
             lift_ages: Ages::default(),
         }
@@ -106,11 +112,24 @@ impl Pair {
         answer
     }
 
-    /// A transfer.
+    /// A transfer. What is on the scale stays there as it was, in its order.
     pub fn transfer(&mut self, head: Head, table: &mut [u32], t: Transfer) -> Transferred {
-        self.moving("transfer", head, table, t, &|engine, table, t| {
+        let load = held_by(&head, table, SCALE);
+        let answer = self.moving("transfer", head, table, t, &|engine, table, t| {
             engine.transfer(head, table, t)
-        })
+        });
+        assert_eq!(held_by(&answer.head, table, SCALE), load, "{head:?} {t:?}");
+        assert_eq!(answer.head.scale, head.scale);
+        self.note_beside("transfer", &head, answer.number);
+        answer
+    }
+
+    /// Counts a transfer or a report beside a loaded scale. 22 is for a lift alone.
+    fn note_beside(&mut self, name: &'static str, head: &Head, number: u32) {
+        assert_ne!(number, Refusal::ScaleLoaded.number(), "{name}");
+        if head.scale > 0 {
+            self.beside.add(name, number);
+        }
     }
 
     /// A transfer or a lift, by the call that makes it. Beside the comparison: a refusal changes
@@ -144,76 +163,6 @@ impl Pair {
         };
         ages.add((&head, &before), t, &answer, &young);
         self.tally.add(name, answer.number);
-        answer
-    }
-
-    /// A report, by the call that makes it. The table stays, a refusal writes nothing, and the
-    /// numbers after the report remain.
-    fn report(
-        &mut self,
-        name: &'static str,
-        numbers: usize,
-        (head, table): (Head, &[u32]),
-        report: &mut [u32],
-        call: &dyn Fn(&dyn Engine, &mut [u32]) -> Reported,
-    ) -> Reported {
-        let (table_before, before) = (table.to_vec(), report.to_vec());
-        let answer = guarded(report, 0xdead_beef, |report| call(self.subject, report));
-        let mut expected_report = before.clone();
-        let expected = call(&Second, &mut expected_report);
-        self.same(name, &head, answer, expected);
-        self.same(name, &head, &*report, &expected_report);
-        assert_eq!(answer.head, head, "{name} hands the head back");
-        assert_eq!(table, table_before, "{name} leaves the table");
-        let written = if answer.number == 0 { numbers } else { 0 };
-        assert_eq!(
-            report[written..],
-            before[written..],
-            "{name} leaves the rest"
-        );
-        self.tally.add(name, answer.number);
-        answer
-    }
-
-    /// The held report.
-    pub fn held(&mut self, head: Head, table: &[u32], vessel: u32, room: &mut [u32]) -> Reported {
-        let numbers = head.vessels as usize;
-        self.report("held", numbers, (head, table), room, &|engine, room| {
-            engine.held(head, table, vessel, room)
-        })
-    }
-
-    /// The spread report.
-    pub fn spread(
-        &mut self,
-        head: Head,
-        table: &[u32],
-        origin: u32,
-        span: (u32, u32),
-        room: &mut [u32],
-    ) -> Reported {
-        let numbers = head.vessels as usize;
-        self.report("spread", numbers, (head, table), room, &|engine, room| {
-            engine.spread(head, table, origin, span, room)
-        })
-    }
-
-    /// The whole report, made both ways on the room as it was lent: in one pass, and row by row. They
-    /// answer the same and leave the same.
-    pub fn whole(&mut self, head: Head, table: &[u32], room: &mut [u32]) -> Reported {
-        let (numbers, book) = ((head.vessels as usize).pow(2), (head, table));
-        let mut rows = room.to_vec();
-        let answer = self.report("whole", numbers, book, room, &|engine, room| {
-            engine.whole(head, table, room)
-        });
-        let by_rows = self.report(
-            "whole by rows",
-            numbers,
-            book,
-            &mut rows,
-            &|engine, room| engine.whole_by_rows(head, table, room),
-        );
-        assert_eq!((by_rows, &rows[..]), (answer, &*room), "both ways");
         answer
     }
 }

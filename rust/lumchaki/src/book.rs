@@ -37,19 +37,20 @@ pub fn open(rule: u32, vessels: u32) -> Result<Head, Refusal> {
 }
 
 /// Transfers weight from one vessel to another. What the source lacks is born there; it was milled
-/// `age` minutes before, so that its birth minute is `minute - age`. A refused transfer leaves head
-/// and table as they are.
+/// `age` minutes before, so that its birth minute is `minute - age`. What is on the scale stays there.
+/// A refused transfer leaves head and table as they are.
 ///
 /// # Errors
-/// The refusals 1, 4, 22, 5 to 8, 21 and 9 to 11, the first that applies in this order.
+/// The refusals 1, 4, 5 to 8, 21 and 9 to 11, the first that applies in this order.
 pub fn transfer(head: &mut Head, table: &mut [u32], transfer: Transfer) -> Result<Moved, Refusal> {
     let answer = raw::transfer(*head, table, transfer);
     moved(head, answer)
 }
 
 /// Lifts weight from a vessel onto the scale: the first half of a transfer, which counts as one. What
-/// the source lacks is born there, as in a transfer. Until the scale is tipped no other transfer,
-/// lift or report is accepted. A refused lift leaves head and table as they are.
+/// the source lacks is born there, as in a transfer. Until the scale is tipped no other lift is
+/// accepted; transfers and reports are, and what is on the scale is in no vessel. A refused lift
+/// leaves head and table as they are.
 ///
 /// # Errors
 /// The refusals 1, 4, 22, 5, 7, 8, 21, 10 and 11, the first that applies in this order.
@@ -58,9 +59,9 @@ pub fn lift(head: &mut Head, table: &mut [u32], lift: Lift) -> Result<Moved, Ref
     moved(head, answer)
 }
 
-/// Tips all that is on the scale into a vessel, which may be the one that it was lifted from: the
-/// second half of a transfer, which does not count. A refused tip leaves head and table as they are,
-/// and the scale loaded.
+/// Tips all that is on the scale into a vessel, behind all that this one received meanwhile. It may be
+/// the one that was lifted from. A tip is the second half of a transfer, which does not count. A
+/// refused tip leaves head and table as they are, and the scale loaded.
 ///
 /// # Errors
 /// The refusals 1, 4, 23, 5, 8 and 9, the first that applies in this order.
@@ -74,7 +75,7 @@ pub fn tip(head: &mut Head, table: &mut [u32], tip: Tip) -> Result<(), Refusal> 
 /// The weight by origin in a vessel: the part of `report` that was written.
 ///
 /// # Errors
-/// The refusals 1, 4, 22, 5 and 13, the first that applies in this order.
+/// The refusals 1, 4, 5 and 13, the first that applies in this order.
 pub fn held<'r>(
     head: &Head,
     table: &[u32],
@@ -89,7 +90,7 @@ pub fn held<'r>(
 /// that was written.
 ///
 /// # Errors
-/// The refusals 1, 4, 22, 5, 12 and 13, the first that applies in this order.
+/// The refusals 1, 4, 5, 12 and 13, the first that applies in this order.
 pub fn spread<'r>(
     head: &Head,
     table: &[u32],
@@ -104,7 +105,7 @@ pub fn spread<'r>(
 /// The held report of every vessel, one row behind the other: the part of `report` that was written.
 ///
 /// # Errors
-/// The refusals 1, 4, 22 and 13, the first that applies in this order.
+/// The refusals 1, 4 and 13, the first that applies in this order.
 pub fn whole<'r>(head: &Head, table: &[u32], report: &'r mut [u32]) -> Result<&'r [u32], Refusal> {
     accept(raw::whole(*head, table, report).number)?;
     Ok(rows(head, report))

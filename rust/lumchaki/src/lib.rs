@@ -26,11 +26,15 @@
 //! let oldest = Piece::all(&head, &table).min_by_key(|p| p.birth);
 //! assert_eq!(oldest.map(|p| (p.holder, p.origin, p.birth)), Some((MIXER, FARM, 430)));
 //!
-//! // A baker may weigh first and decide on the vessel afterwards. Until then the scale is loaded.
+//! // A baker may weigh first and decide on the vessel afterwards. What is on the scale is in no vessel.
+//! // Until it is tipped another lift has to wait; transfers and reports go on.
 //! lift(&mut head, &mut table, Lift::new([SILO, 510, 150]))?;
-//! assert_eq!(held(&head, &table, MIXER, &mut report), Err(Refusal::ScaleLoaded));
+//! let second = lift(&mut head, &mut table, Lift::new([SILO, 511, 50]));
+//! assert_eq!(second, Err(Refusal::ScaleLoaded));
+//! transfer(&mut head, &mut table, Transfer::new([SILO, MIXER, 511, 50]))?;
+//! assert_eq!(held(&head, &table, MIXER, &mut report)?, [350, 300, 0, 0]);
 //! tip(&mut head, &mut table, Tip::new([MIXER, 512]))?;
-//! assert_eq!(held(&head, &table, MIXER, &mut report)?, [450, 300, 0, 0]);
+//! assert_eq!(held(&head, &table, MIXER, &mut report)?, [500, 300, 0, 0]);
 //!
 //! // A refusal changes nothing and has its number and word in document 01 or 02.
 //! let back = transfer(&mut head, &mut table, Transfer::new([SILO, MIXER, 499, 1]));

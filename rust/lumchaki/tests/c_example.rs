@@ -4,13 +4,14 @@ use std::path::Path;
 use std::process::Command;
 
 /// The weighing; the pieces of the six movements and of the delivery of older flour, born at 9 - 7,
-/// with what was weighed in vessel 1; then the report.
+/// with what was weighed in vessel 1, behind what came there meanwhile; then the report.
 const OUTPUT: &str = "\
 3 g on the scale
 holder origin birth weight
      0      2     3      2
-     2      1     5      4
+     2      1     5      3
      0      1     2      3
+     1      1     5      1
      1      1     1      1
      1      1     1      2
 vessel 0 holds 0 g from vessel 0

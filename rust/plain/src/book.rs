@@ -49,11 +49,3 @@ fn adds_up(head: &Head, table: &[u32]) -> bool {
     u64::from(head.scale) == sums[VESSELS]
         && (0..VESSELS).all(|v| u64::from(head.balances[v]) == sums[v])
 }
-
-/// Check 22.
-pub fn check_bare(head: &Head) -> Result<(), Refusal> {
-    if head.scale > 0 {
-        return Err(Refusal::ScaleLoaded);
-    }
-    Ok(())
-}

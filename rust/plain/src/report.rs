@@ -1,7 +1,7 @@
-//! The three reports; whole in one pass, and by rows.
+//! The three reports; whole in one pass, and by rows. None includes what is on the scale.
 
 use crate::book;
-use calls::{Head, Refusal};
+use calls::{Head, Refusal, SCALE};
 
 /// The pieces of a book that adds up.
 fn pieces<'t>(head: &Head, table: &'t [u32]) -> &'t [[u32; 4]] {
@@ -20,7 +20,6 @@ fn row(pieces: &[[u32; 4]], vessel: u32, report: &mut [u32]) {
 
 pub fn held(head: &Head, table: &[u32], vessel: u32, report: &mut [u32]) -> Result<(), Refusal> {
     book::check(head, table)?;
-    book::check_bare(head)?;
     if vessel >= head.vessels {
         return Err(Refusal::NoVessel);
     }
@@ -40,7 +39,6 @@ pub fn spread(
     report: &mut [u32],
 ) -> Result<(), Refusal> {
     book::check(head, table)?;
-    book::check_bare(head)?;
     if origin >= head.vessels {
         return Err(Refusal::NoVessel);
     }
@@ -53,9 +51,9 @@ pub fn spread(
     }
     let report = &mut report[..vessels];
     report.fill(0);
-    for p in pieces(head, table) {
-        if p[1] == origin && from <= p[2] && p[2] <= to {
-            report[p[0] as usize] += p[3];
+    for &[holder, of, birth, weight] in pieces(head, table) {
+        if holder != SCALE && of == origin && from <= birth && birth <= to {
+            report[holder as usize] += weight;
         }
     }
     Ok(())
@@ -64,7 +62,6 @@ pub fn spread(
 /// The room of a whole report, past its checks: `vessels` rows of so many numbers.
 fn square<'r>(head: &Head, table: &[u32], report: &'r mut [u32]) -> Result<&'r mut [u32], Refusal> {
     book::check(head, table)?;
-    book::check_bare(head)?;
     let vessels = head.vessels as usize;
     report
         .get_mut(..vessels * vessels)
@@ -76,7 +73,9 @@ pub fn whole(head: &Head, table: &[u32], report: &mut [u32]) -> Result<(), Refus
     let vessels = head.vessels as usize;
     report.fill(0);
     for &[holder, origin, _, weight] in pieces(head, table) {
-        report[holder as usize * vessels + origin as usize] += weight;
+        if holder != SCALE {
+            report[holder as usize * vessels + origin as usize] += weight;
+        }
     }
     Ok(())
 }

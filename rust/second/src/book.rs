@@ -14,7 +14,7 @@ pub struct Book {
     accepted: u32,
     buffers: Vec<Buffer>,
     balances: Vec<u64>,
-    /// What is on the scale, in order of receipt: no rule picks from it.
+    /// What is on the scale, in order of receipt: no rule picks from it, and no report includes it.
     scale: Vec<Lot>,
     pieces: usize,
     receipts: u64,
@@ -134,9 +134,6 @@ impl Book {
     /// The refusal of a transfer, if one applies. Table and book were looked at before.
     fn refusal(&self, t: &Transfer) -> Option<Refusal> {
         let (source, destination) = (t.source as usize, t.destination as usize);
-        if !self.scale.is_empty() {
-            return Some(Refusal::ScaleLoaded);
-        }
         if source >= self.buffers.len() || destination >= self.buffers.len() {
             return Some(Refusal::NoVessel);
         }
@@ -231,7 +228,6 @@ impl Book {
 
     /// The weight by origin in a vessel.
     pub fn held(&self, vessel: u32) -> Result<Vec<u32>, Refusal> {
-        self.scale_is_bare()?;
         let buffer = self.buffers.get(vessel as usize).ok_or(Refusal::NoVessel)?;
         let mut report = vec![0; self.buffers.len()];
         for lot in buffer.lots() {
@@ -242,7 +238,6 @@ impl Book {
 
     /// The weight in each vessel that was born at an origin, from one minute to another, both included.
     pub fn spread(&self, origin: u32, from: u32, to: u32) -> Result<Vec<u32>, Refusal> {
-        self.scale_is_bare()?;
         if origin as usize >= self.buffers.len() {
             return Err(Refusal::NoVessel);
         }
@@ -255,9 +250,8 @@ impl Book {
     }
 
     /// The held reports of all vessels, one behind the other.
-    pub fn whole(&self) -> Result<Vec<u32>, Refusal> {
-        self.scale_is_bare()?;
+    pub fn whole(&self) -> Vec<u32> {
         let rows = (0..self.buffers.len() as u32).filter_map(|v| self.held(v).ok());
-        Ok(rows.flatten().collect())
+        rows.flatten().collect()
     }
 }

@@ -143,7 +143,7 @@ impl Engine for Second {
     }
 
     fn whole(&self, head: Head, table: &[u32], report: &mut [u32]) -> Reported {
-        let numbers = book_of(&head, table).and_then(|book| book.whole());
+        let numbers = book_of(&head, table).map(|book| book.whole());
         reported(head, numbers.and_then(|n| fill(report, &n)))
     }
 

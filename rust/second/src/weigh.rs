@@ -43,7 +43,7 @@ impl WeighBook {
         }
     }
 
-    /// Feeds it a transfer; its answer is 0 or the first of 22, 5 to 8, 21, 9 and 10 that applies.
+    /// Feeds it a transfer; its answer is 0 or the first of 5 to 8, 21, 9 and 10 that applies.
     pub fn feed(&mut self, t: Transfer) -> u32 {
         number_of(self.weigh(t))
     }
@@ -63,7 +63,6 @@ impl WeighBook {
     }
 
     fn weigh(&mut self, t: Transfer) -> Result<(), Refusal> {
-        refuse_if(self.scale > 0, Refusal::ScaleLoaded)?;
         let known = self.has(t.source) && self.has(t.destination);
         refuse_if(!known, Refusal::NoVessel)?;
         refuse_if(t.source == t.destination, Refusal::SameVessel)?;

@@ -1,14 +1,26 @@
-//! Lift and tip.
+//! Lift and tip, and what is on the scale.
 
 use super::{guarded, Pair};
 use calls::{places, Engine, Head, Lift, Piece, Tip, Tipped, Transferred, SCALE};
 use second::Second;
 
-/// The pieces after an accepted tip, in the words of document 02: those on the scale leave it in the
-/// order they lie and join the end.
-fn after_tip(head: &Head, table: &[u32], destination: u32) -> Vec<Piece> {
-    let (lifted, mut pieces): (Vec<Piece>, Vec<Piece>) =
-        Piece::all(head, table).partition(|p| p.holder == SCALE);
+/// A book without what is on its scale.
+pub(super) fn without_load(head: &Head, table: &[u32]) -> (Head, Vec<u32>) {
+    let others = Piece::all(head, table).filter(|p| p.holder != SCALE);
+    let mut others: Vec<u32> = others.flat_map(|p| p.numbers()).collect();
+    let head = Head {
+        pieces: others.len() as u32 / 4,
+        scale: 0,
+        ..*head
+    };
+    others.resize(table.len(), 0);
+    (head, others)
+}
+
+/// The pieces after a tip, in the words of document 02: those on a scale leave it in the order they
+/// lie and join the end.
+pub fn tipped(pieces: impl Iterator<Item = Piece>, scale: u32, destination: u32) -> Vec<Piece> {
+    let (lifted, mut pieces): (Vec<Piece>, Vec<Piece>) = pieces.partition(|p| p.holder == scale);
     let tipped = |p: Piece| Piece {
         holder: destination,
         ..p
@@ -45,7 +57,7 @@ impl Pair {
         self.same("tip", &told, answer, expected);
         self.same("tip", &told, &*table, &expected_table);
         if answer.number == 0 {
-            let pieces = after_tip(&head, &before, t.destination);
+            let pieces = tipped(Piece::all(&head, &before), SCALE, t.destination);
             assert!(Piece::all(&answer.head, table).eq(pieces), "{told:?}");
             let mut next = head;
             next.balances[t.destination as usize] += head.scale;

@@ -1,8 +1,8 @@
 //! Calls on books: any table, any head, any argument.
 
-use calls::{Head, Piece, Refusal, Transfer, Transferred, SCALE, TOP};
+use calls::{Head, Refusal, Transfer, Transferred, SCALE, TOP};
 use compare::{
-    book, foul_book, lift_for, loaded_book, near, report_room, room, subjects, tip_for,
+    book, foul_book, held_by, lift_for, loaded_book, near, report_room, room, subjects, tip_for,
     transfer_for, Pair, Random, FOUL_CLAUSES,
 };
 
@@ -53,8 +53,8 @@ impl Moves {
 
 /// Whether a rule by birth finds two pieces of a vessel born at the same minute.
 pub fn tied(head: &Head, table: &[u32], vessel: u32) -> bool {
-    let held = Piece::all(head, table).filter(|p| p.holder == vessel);
-    let mut births: Vec<u32> = held.map(|p| p.birth).collect();
+    let held = held_by(head, table, vessel);
+    let mut births: Vec<u32> = held.iter().map(|p| p.birth).collect();
     births.sort_unstable();
     head.rule >= 2 && births.windows(2).any(|w| w[0] == w[1])
 }
@@ -99,7 +99,8 @@ fn calls_on_books_that_add_up() {
         let mut covered = Moves::default();
         for round in 0..600 {
             for &length in &lengths() {
-                let (mut head, mut table) = book(&mut random, round % 4, length);
+                let of = if round % 8 < 4 { book } else { loaded_book };
+                let (mut head, mut table) = of(&mut random, round % 4, length);
                 for _ in 0..3 {
                     let transfer = transfer_for(&mut random, &head, &table);
                     let tied = tied(&head, &table, transfer.source);
@@ -110,19 +111,23 @@ fn calls_on_books_that_add_up() {
                 reports(&mut pair, &mut random, head, &table);
             }
         }
-        let ages = &pair.ages;
+        let (ages, beside) = (&pair.ages, &pair.beside);
         pair.tally.print(&format!(
-            "books that add up, {} {covered:?} {ages:?}",
+            "books that add up, {} {covered:?} {ages:?} beside a load {beside:?}",
             pair.label()
         ));
         covered.expect(500);
         ages.expect(&[0, 5, 6, 7, 8, 9, 10, 11], 50);
         // A book that adds up is never off, except on a table too short to hold one.
         pair.tally
-            .expect("transfer", &[0, 1, 5, 6, 7, 8, 9, 10, 11, 21, 22], 100);
-        pair.tally.expect("held", &[0, 1, 5, 13, 22], 100);
-        pair.tally.expect("spread", &[0, 1, 5, 12, 13, 22], 100);
-        pair.tally.expect("whole", &[0, 1, 13, 22], 100);
+            .expect("transfer", &[0, 1, 5, 6, 7, 8, 9, 10, 11, 21], 100);
+        pair.tally.expect("held", &[0, 1, 5, 13], 100);
+        pair.tally.expect("spread", &[0, 1, 5, 12, 13], 100);
+        pair.tally.expect("whole", &[0, 1, 13], 100);
+        beside.expect("transfer", &[0, 5, 6, 7, 8, 9, 10, 11, 21], 500);
+        beside.expect("held", &[0, 5, 13], 500);
+        beside.expect("spread", &[0, 5, 12, 13], 500);
+        beside.expect("whole", &[0, 13], 500);
     }
 }
 
@@ -134,7 +139,8 @@ fn calls_on_long_tables() {
         let mut full = 0;
         for round in 0..40 {
             for &length in &LONG {
-                let (mut head, mut table) = book(&mut random, round % 4, length);
+                let of = if round % 8 < 4 { book } else { loaded_book };
+                let (mut head, mut table) = of(&mut random, round % 4, length);
                 for _ in 0..6 {
                     let transfer = transfer_for(&mut random, &head, &table);
                     head = pair.transfer(head, &mut table, transfer).head;
@@ -143,11 +149,17 @@ fn calls_on_long_tables() {
                 reports(&mut pair, &mut random, head, &table);
             }
         }
-        pair.tally
-            .print(&format!("long tables, {} ({full} full ones)", pair.label()));
+        let beside = &pair.beside;
+        pair.tally.print(&format!(
+            "long tables, {} ({full} full ones) beside a load {beside:?}",
+            pair.label()
+        ));
         assert!(full > 50);
-        assert!(pair.tally.count("transfer", 0) > 100);
-        assert!(pair.tally.count("transfer", 11) > 20);
+        for tally in [&pair.tally, beside] {
+            assert!(tally.count("transfer", 0) > 100);
+            assert!(tally.count("transfer", 11) > 20);
+            assert!(tally.count("spread", 0) > 20 && tally.count("whole", 0) > 20);
+        }
     }
 }
 

@@ -1,31 +1,13 @@
 //! The laws of demand 3, checked while lists of transfers, lifts, tips and reports run: on one fresh
 //! book, under all four rules.
 
-use calls::{Engine, Head, Lift, Piece, Transferred, SCALE};
-use compare::{call_list, room, subjects, Call, Pair, Random};
-use second::{Book, Moved, WeighBook};
-use std::collections::BTreeMap;
+mod covered;
 
-/// How often each law had something to say.
-#[derive(Debug, Default)]
-struct Covered {
-    lists: u32,
-    transfers: u32,
-    lifts: u32,
-    tips: u32,
-    even: u32,
-    /// Lifts that were even: they count beside the pieces.
-    even_lifts: u32,
-    births: u32,
-    /// Births entered under an origin and minute that had some from a transfer at another minute.
-    added: u32,
-    /// Lists that end with weight on the scale.
-    loaded: u32,
-    forecasts: u32,
-    /// Forecasts in which these numbers were met: 21, 22, 23, and 9 of a tip.
-    forecasts_of: [u32; 4],
-    full: u32,
-}
+use calls::{Engine, Head, Lift, Piece, Tip, Transfer, Transferred, SCALE};
+use compare::{call_list, room, subjects, Call, Pair, Random};
+use covered::{Covered, FORECASTS};
+use second::{Book, Moved, WeighBook};
+use std::collections::{BTreeMap, BTreeSet};
 
 /// The pieces, in every vessel and on the scale, sum to what the weigh book has there; so do the
 /// births.
@@ -63,6 +45,9 @@ struct Followed<'p> {
     accepted: u32,
     /// The number of every transfer, lift and tip.
     numbers: Vec<u32>,
+    /// Where the load on the scale came from, and the vessels that received something beside it.
+    lifted_from: u32,
+    receivers: BTreeSet<u32>,
     born_at: BTreeMap<(u32, u32), u32>,
 }
 
@@ -84,6 +69,8 @@ impl<'p> Followed<'p> {
             even: 0,
             accepted: 0,
             numbers: Vec::new(),
+            lifted_from: 0,
+            receivers: BTreeSet::new(),
             born_at: BTreeMap::new(),
         }
     }
@@ -131,35 +118,53 @@ impl<'p> Followed<'p> {
         self.head = answer.head;
     }
 
+    fn transfer(&mut self, transfer: Transfer) {
+        let beside = self.head.scale > 0;
+        let answer = self.pair.transfer(self.head, &mut self.table, transfer);
+        self.note(transfer.lift(), &answer, |on| {
+            assert_eq!(on.weighed.feed(transfer), 0);
+            on.book.transfer(transfer).expect("accepted")
+        });
+        self.covered.transfers += 1;
+        if beside && answer.number == 0 {
+            self.covered.from_source += u32::from(transfer.source == self.lifted_from);
+            self.covered.into_source += u32::from(transfer.destination == self.lifted_from);
+            self.receivers.insert(transfer.destination);
+        }
+    }
+
+    fn lift(&mut self, lift: Lift) {
+        let answer = self.pair.lift(self.head, &mut self.table, lift);
+        self.note(lift, &answer, |on| {
+            assert_eq!(on.weighed.feed_lift(lift), 0);
+            on.book.lift(lift).expect("accepted")
+        });
+        self.covered.lifts += 1;
+        self.covered.even_lifts += u32::from(answer.even());
+        if answer.number == 0 {
+            self.lifted_from = lift.source;
+            self.receivers.clear();
+        }
+    }
+
+    fn tip(&mut self, tip: Tip) {
+        let answer = self.pair.tip(self.head, &mut self.table, tip);
+        self.head = answer.head;
+        self.numbers.push(answer.number);
+        self.covered.tips += 1;
+        if answer.number == 0 {
+            assert_eq!(self.weighed.feed_tip(tip), 0);
+            assert_eq!(self.book.tip(tip), Ok(()));
+            let behind = self.receivers.contains(&tip.destination);
+            self.covered.behind += u32::from(behind);
+        }
+    }
+
     fn call(&mut self, random: &mut Random, call: &Call) {
         match *call {
-            Call::Move(transfer) => {
-                let answer = self.pair.transfer(self.head, &mut self.table, transfer);
-                self.note(transfer.lift(), &answer, |on| {
-                    assert_eq!(on.weighed.feed(transfer), 0);
-                    on.book.transfer(transfer).expect("accepted")
-                });
-                self.covered.transfers += 1;
-            }
-            Call::Lift(lift) => {
-                let answer = self.pair.lift(self.head, &mut self.table, lift);
-                self.note(lift, &answer, |on| {
-                    assert_eq!(on.weighed.feed_lift(lift), 0);
-                    on.book.lift(lift).expect("accepted")
-                });
-                self.covered.lifts += 1;
-                self.covered.even_lifts += u32::from(answer.even());
-            }
-            Call::Tip(tip) => {
-                let answer = self.pair.tip(self.head, &mut self.table, tip);
-                self.head = answer.head;
-                self.numbers.push(answer.number);
-                if answer.number == 0 {
-                    assert_eq!(self.weighed.feed_tip(tip), 0);
-                    assert_eq!(self.book.tip(tip), Ok(()));
-                }
-                self.covered.tips += 1;
-            }
+            Call::Move(transfer) => self.transfer(transfer),
+            Call::Lift(lift) => self.lift(lift),
+            Call::Tip(tip) => self.tip(tip),
             _ => self.report(random, call),
         }
         assert_eq!(self.head.accepted, self.accepted);
@@ -191,14 +196,15 @@ fn follow(mut followed: Followed, random: &mut Random, list: &[Call]) -> Vec<u32
     numbers
 }
 
-/// What the weigh book alone, fed every transfer, lift and tip, says of each. Beside it whether the
-/// call is a tip.
-fn forecast(vessels: u32, list: &[Call]) -> Vec<(u32, bool)> {
+/// What the weigh book alone, fed every transfer, lift and tip, says of each. Behind it which call it
+/// is, and of a transfer whether the weigh book's scale is loaded.
+fn forecast(vessels: u32, list: &[Call]) -> Vec<(u32, &'static str)> {
     let mut weighed = WeighBook::new(vessels);
     let feed = |call: &Call| match call {
-        Call::Move(transfer) => Some((weighed.feed(*transfer), false)),
-        Call::Lift(lift) => Some((weighed.feed_lift(*lift), false)),
-        Call::Tip(tip) => Some((weighed.feed_tip(*tip), true)),
+        Call::Move(transfer) if weighed.scale > 0 => Some((weighed.feed(*transfer), "beside")),
+        Call::Move(transfer) => Some((weighed.feed(*transfer), "transfer")),
+        Call::Lift(lift) => Some((weighed.feed_lift(*lift), "lift")),
+        Call::Tip(tip) => Some((weighed.feed_tip(*tip), "tip")),
         _ => None,
     };
     list.iter().filter_map(feed).collect()
@@ -214,7 +220,7 @@ fn check_forecast(
     covered: &mut Covered,
 ) {
     let forecast = forecast(vessels, list);
-    let counted = forecast.iter().filter(|(_, tip)| !tip).count();
+    let counted = forecast.iter().filter(|(_, call)| *call != "tip").count();
     if length < 4 || counted > length / 4 {
         return;
     }
@@ -222,14 +228,9 @@ fn check_forecast(
     let all = numbers.iter().all(|n| n.iter().copied().eq(expected()));
     assert!(all, "{list:?}");
     covered.forecasts += 1;
-    let met = [
-        expected().any(|n| n == 21),
-        expected().any(|n| n == 22),
-        expected().any(|n| n == 23),
-        forecast.contains(&(9, true)),
-    ];
-    for (count, met) in covered.forecasts_of.iter_mut().zip(met) {
-        *count += u32::from(met);
+    covered.age_forecasts += u32::from(expected().any(|n| n == 21));
+    for (count, said) in covered.forecasts_of.iter_mut().zip(&FORECASTS) {
+        *count += u32::from(forecast.contains(said));
     }
 }
 
@@ -255,33 +256,7 @@ fn laws_of(subject: &'static dyn Engine, rounds: u32) {
         check_forecast(vessels, length, &list, &numbers, &mut covered);
         covered.lists += 1;
     }
-    expect(&pair, &covered);
-}
-
-fn expect(pair: &Pair, covered: &Covered) {
-    let (ages, lift_ages) = (&pair.ages, &pair.lift_ages);
-    pair.tally.print(&format!(
-        "demand 3, {} {covered:?} {ages:?} lifts {lift_ages:?}",
-        pair.label()
-    ));
-    assert!(covered.lists >= 1_000 && covered.transfers > 50_000);
-    assert!(covered.lifts > 20_000 && covered.tips > 20_000);
-    assert!(covered.even > 5_000 && covered.births > 5_000 && covered.full > 500);
-    assert!(covered.even_lifts > 1_000 && covered.added > 1_000 && covered.loaded > 1_000);
-    assert!(covered.forecasts > 300);
-    assert!(covered.forecasts_of.iter().all(|&count| count > 100));
-    for call in ["transfer", "lift", "tip"] {
-        assert!(pair.tally.count(call, 0) > 10_000, "{call}");
-    }
-    ages.expect(&[0, 5, 6, 7, 8, 9, 11, 22], 100);
-    lift_ages.expect_of_lifts(&[0, 5, 7, 8, 11, 22], 50);
-    pair.tally
-        .expect("transfer", &[0, 1, 5, 6, 7, 8, 9, 11, 21, 22], 100);
-    pair.tally.expect("lift", &[0, 1, 5, 7, 8, 11, 21, 22], 100);
-    pair.tally.expect("tip", &[0, 1, 5, 8, 9, 23], 100);
-    pair.tally.expect("held", &[0, 1, 5, 13, 22], 100);
-    pair.tally.expect("spread", &[0, 1, 5, 12, 13, 22], 100);
-    pair.tally.expect("whole", &[0, 1, 13, 22], 100);
+    covered.expect(&pair);
 }
 
 #[test]

@@ -9,11 +9,16 @@ mod divided;
 mod header;
 mod listing;
 mod no_movements;
+#[cfg(feature = "library")]
+mod one_pass;
 mod order;
 mod scale;
+mod scale_beside;
 mod scale_books;
 mod scale_limits;
 mod scale_order;
+mod scale_rests;
+mod second_scale;
 mod sheet_order;
 mod sheets;
 mod stops;

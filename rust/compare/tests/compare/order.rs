@@ -1,6 +1,6 @@
 //! The order of the checks: every set of faults that a call can have at once, and the answer is the
-//! first of them in the documents' order. Transfers and reports; lift and tip are in `scale_order`, a
-//! sheet's calls in `sheet_order`.
+//! first of them in the documents' order. Transfers and reports, beside a bare scale and a loaded one;
+//! lift and tip are in `scale_order`, a sheet's calls in `sheet_order`.
 
 use calls::{Head, Transfer, SCALE, TOP};
 use compare::{subjects, Pair};
@@ -101,13 +101,16 @@ pub fn rule_and_weight(form: usize) -> (u32, u32) {
     (form as u32 % 4, [SPLIT, ALL, BIRTH][form / 4 % 3])
 }
 
+/// Transfers and reports have the same faults beside either scale.
+const SCALES: [(bool, &str); 2] = [(false, "bare"), (true, "loaded")];
+
 /// Vessels that a book of 3 does not have, the scale's number among them.
 pub const STRANGERS: [u32; 4] = [3, SCALE, SCALE + 1, TOP];
 
 /// A transfer with these faults, and the book that it is made on.
-fn transfer_with(set: &[u32], form: usize) -> (Head, Vec<u32>, Transfer) {
+fn transfer_with(set: &[u32], form: usize, loaded: bool) -> (Head, Vec<u32>, Transfer) {
     let (rule, weight) = rule_and_weight(form);
-    let (mut head, mut table) = small_book(rule, set.contains(&22));
+    let (mut head, mut table) = small_book(rule, loaded);
     let mut t = Transfer::new([0, 1, 5, weight]);
     // From the last to the first, so that an earlier fault has the last word on an argument.
     for fault in set.iter().rev() {
@@ -130,39 +133,47 @@ fn transfer_with(set: &[u32], form: usize) -> (Head, Vec<u32>, Transfer) {
     (head, table, t)
 }
 
+/// Every set of a transfer's faults, in every form.
+fn transfers_with(pair: &mut Pair, faults: &[u32], loaded: bool) -> Due {
+    let mut due = Due::default();
+    for form in 0..FORMS {
+        for set in sets(faults) {
+            if set.contains(&11) && rule_and_weight(form).1 == ALL {
+                continue; // it needs no place
+            }
+            let (head, mut table, t) = transfer_with(&set, form, loaded);
+            let answer = pair.transfer(head, &mut table, t);
+            assert_eq!(answer.number, first(&set), "{set:?}");
+            due.add(&set);
+        }
+    }
+    due
+}
+
 #[test]
 fn transfers() {
-    const FAULTS: [u32; 11] = [1, 4, 22, 5, 6, 7, 8, 21, 9, 10, 11];
+    const FAULTS: [u32; 10] = [1, 4, 5, 6, 7, 8, 21, 9, 10, 11];
     for subject in subjects() {
-        let mut pair = Pair::new(subject);
-        let mut due = Due::default();
-        for form in 0..FORMS {
-            for set in sets(&FAULTS) {
-                if set.contains(&11) && rule_and_weight(form).1 == ALL {
-                    continue; // it needs no place
-                }
-                let (head, mut table, t) = transfer_with(&set, form);
-                let answer = pair.transfer(head, &mut table, t);
-                assert_eq!(answer.number, first(&set), "{set:?}");
-                due.add(&set);
-            }
+        for (loaded, scale) in SCALES {
+            let mut pair = Pair::new(subject);
+            let due = transfers_with(&mut pair, &FAULTS, loaded);
+            let (said, unborn) = (due.said(), pair.ages.above_unborn);
+            pair.tally.print(&format!(
+                "order, transfers, {scale} scale, {} {said} unborn {unborn}",
+                pair.label()
+            ));
+            pair.tally
+                .expect("transfer", &[0, 1, 4, 5, 6, 7, 8, 9, 10, 11, 21], 16);
+            due.expect(&FAULTS, 16);
+            assert!(unborn >= 16);
         }
-        let (said, unborn) = (due.said(), pair.ages.above_unborn);
-        pair.tally.print(&format!(
-            "order, transfers, {} {said} unborn {unborn}",
-            pair.label()
-        ));
-        pair.tally
-            .expect("transfer", &[0, 1, 4, 5, 6, 7, 8, 9, 10, 11, 21, 22], 16);
-        due.expect(&FAULTS, 16);
-        assert!(unborn >= 16);
     }
 }
 
 /// The three reports with these faults, each with those of them that it can have.
-fn reports_with(pair: &mut Pair, due: &mut [Due; 3], set: &[u32], form: usize) {
+fn reports_with(pair: &mut Pair, due: &mut [Due; 3], (set, form): (&[u32], usize), loaded: bool) {
     let has = |fault| set.contains(&fault);
-    let (mut head, mut table) = small_book(form as u32 % 4, has(22));
+    let (mut head, mut table) = small_book(form as u32 % 4, loaded);
     damage_book(set, form, &mut head, &mut table);
     let vessel = if has(5) { STRANGERS[form % 4] } else { 1 };
     let span = if has(12) { (4, 3) } else { (3, 3) };
@@ -185,25 +196,29 @@ fn reports_with(pair: &mut Pair, due: &mut [Due; 3], set: &[u32], form: usize) {
 
 #[test]
 fn reports() {
-    const SPREAD: [u32; 6] = [1, 4, 22, 5, 12, 13];
-    const HELD: [u32; 5] = [1, 4, 22, 5, 13];
-    const WHOLE: [u32; 4] = [1, 4, 22, 13];
+    const SPREAD: [u32; 5] = [1, 4, 5, 12, 13];
+    const HELD: [u32; 4] = [1, 4, 5, 13];
+    const WHOLE: [u32; 3] = [1, 4, 13];
     for subject in subjects() {
-        let mut pair = Pair::new(subject);
-        let mut due = <[Due; 3]>::default();
-        for form in 0..12 {
-            for set in sets(&SPREAD) {
-                reports_with(&mut pair, &mut due, &set, form);
+        for (loaded, scale) in SCALES {
+            let mut pair = Pair::new(subject);
+            let mut due = <[Due; 3]>::default();
+            for form in 0..12 {
+                for set in sets(&SPREAD) {
+                    reports_with(&mut pair, &mut due, (&set, form), loaded);
+                }
             }
+            let said = due.each_ref().map(Due::said).join(" ");
+            pair.tally.print(&format!(
+                "order, reports, {scale} scale, {} {said}",
+                pair.label()
+            ));
+            pair.tally.expect("spread", &[0, 1, 4, 5, 12, 13], 12);
+            pair.tally.expect("held", &[0, 1, 4, 5, 13], 12);
+            pair.tally.expect("whole", &[0, 1, 4, 13], 12);
+            due[0].expect(&SPREAD, 12);
+            due[1].expect(&HELD, 12);
+            due[2].expect(&WHOLE, 12);
         }
-        let said = due.each_ref().map(Due::said).join(" ");
-        pair.tally
-            .print(&format!("order, reports, {} {said}", pair.label()));
-        pair.tally.expect("spread", &[0, 1, 4, 5, 12, 13, 22], 12);
-        pair.tally.expect("held", &[0, 1, 4, 5, 13, 22], 12);
-        pair.tally.expect("whole", &[0, 1, 4, 13, 22], 12);
-        due[0].expect(&SPREAD, 12);
-        due[1].expect(&HELD, 12);
-        due[2].expect(&WHOLE, 12);
     }
 }

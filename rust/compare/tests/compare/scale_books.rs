@@ -1,5 +1,4 @@
-//! Lifts and tips on books: any table, any head, any argument, and the other calls while the scale is
-//! loaded.
+//! Lifts and tips on books: any table, any head, any argument, and transfers and reports between them.
 
 use crate::books::{lengths, reports, tied, Moves, LONG};
 use calls::{Engine, Head, Piece, Refusal, Tip, SCALE};
@@ -82,7 +81,8 @@ impl Weighing<'_> {
         answer.head
     }
 
-    /// Some calls on a book: mostly those that the scale allows.
+    /// Some calls on a book: lifts and tips, mostly those that the scale allows, and transfers and
+    /// reports, which it always does.
     fn calls(&mut self, (mut head, mut table): (Head, Vec<u32>), count: u32) -> Head {
         for _ in 0..count {
             if (head.scale > 0) == self.random.once_in(6) {
@@ -91,9 +91,11 @@ impl Weighing<'_> {
                 let tip = tip_for(&mut self.random, &head);
                 head = self.tip(head, &mut table, tip);
             }
+            if self.random.once_in(2) {
+                let t = transfer_for(&mut self.random, &head, &table);
+                head = self.pair.transfer(head, &mut table, t).head;
+            }
         }
-        let t = transfer_for(&mut self.random, &head, &table);
-        head = self.pair.transfer(head, &mut table, t).head;
         reports(self.pair, &mut self.random, head, &table);
         head
     }
@@ -115,9 +117,9 @@ fn lifts_and_tips_of(subject: &'static dyn Engine) {
         }
     }
     let Weighing { moves, tips, .. } = weighing;
-    let ages = &pair.lift_ages;
+    let (ages, beside) = (&pair.lift_ages, &pair.beside);
     pair.tally.print(&format!(
-        "lifts and tips, {} {moves:?} {tips:?} {ages:?}",
+        "lifts and tips, {} {moves:?} {tips:?} {ages:?} beside a load {beside:?}",
         pair.label()
     ));
     moves.expect(500);
@@ -126,11 +128,14 @@ fn lifts_and_tips_of(subject: &'static dyn Engine) {
     pair.tally
         .expect("lift", &[0, 1, 5, 7, 8, 10, 11, 21, 22], 100);
     pair.tally.expect("tip", &[0, 1, 5, 8, 9, 23], 100);
+    for tally in [&pair.tally, &pair.beside] {
+        assert!(tally.count("transfer", 0) > 1_000 && tally.count("whole", 0) > 1_000);
+    }
     pair.tally
-        .expect("transfer", &[0, 1, 5, 6, 7, 8, 9, 10, 11, 21, 22], 50);
-    pair.tally.expect("held", &[0, 1, 5, 13, 22], 100);
-    pair.tally.expect("spread", &[0, 1, 5, 12, 13, 22], 100);
-    pair.tally.expect("whole", &[0, 1, 13, 22], 100);
+        .expect("transfer", &[0, 1, 5, 6, 7, 8, 9, 10, 11, 21], 100);
+    pair.tally.expect("held", &[0, 1, 5, 13], 100);
+    pair.tally.expect("spread", &[0, 1, 5, 12, 13], 100);
+    pair.tally.expect("whole", &[0, 1, 13], 100);
 }
 
 #[test]

@@ -1,17 +1,33 @@
 //! The whole report, made both ways (`Pair::whole`): every number of vessels, full tables, numbers up
-//! to the largest weight, and the edges of its room. Its rows are held reports, its columns spread
-//! reports over every minute. And which way is which, by the time that they take.
+//! to the largest weight, loads of every origin, and the edges of its room. Its rows are held reports,
+//! its columns spread reports over every minute.
 
 use crate::desk::{engines, Desk};
 use crate::vectors::SIX;
-use calls::{Engine, Head, Piece, PLACES, TOP, VESSELS};
-use compare::{room, subjects, Pair, Random};
-use lumchaki::raw;
-use std::time::{Duration, Instant};
+use calls::{Engine, Head, Piece, PLACES, SCALE, TOP, VESSELS};
+use compare::{balance_of, held_by, room, subjects, Pair, Random};
+use std::collections::BTreeSet;
+
+/// Each way to fill a book: heavy or not, loaded or not.
+const FILLINGS: [[bool; 2]; 4] = [[false, false], [true, false], [false, true], [true, true]];
+
+/// The holder and the origin of a piece of a book: any two of its vessels. In a loaded book every third
+/// piece is on the scale, and the origins of those go round.
+fn holder_and_origin(random: &mut Random, vessels: u32, loaded: bool, i: usize) -> [u32; 2] {
+    if loaded && i.is_multiple_of(3) {
+        return [SCALE, i as u32 / 3 % vessels];
+    }
+    [random.below(vessels), random.below(vessels)]
+}
 
 /// A book of these vessels that fills its table. In a heavy one each piece takes a part of what its
-/// vessel is short of TOP, and the last piece of the vessel all of it.
-fn full_book(random: &mut Random, vessels: u32, places: usize, heavy: bool) -> (Head, Vec<u32>) {
+/// holder is short of TOP, and the last piece of the holder all of it.
+pub fn full_book(
+    random: &mut Random,
+    vessels: u32,
+    places: usize,
+    [heavy, loaded]: [bool; 2],
+) -> (Head, Vec<u32>) {
     let mut head = Head {
         rule: random.below(4),
         vessels,
@@ -20,19 +36,17 @@ fn full_book(random: &mut Random, vessels: u32, places: usize, heavy: bool) -> (
         accepted: places as u32,
         ..Head::ZERO
     };
-    let holders: Vec<u32> = (0..places).map(|_| random.below(vessels)).collect();
-    let mut to_come = [0; VESSELS];
-    for &holder in &holders {
+    let mut piece = |i| holder_and_origin(random, vessels, loaded, i);
+    let pieces: Vec<[u32; 2]> = (0..places).map(&mut piece).collect();
+    let mut to_come = [0; VESSELS + 1];
+    for &[holder, _] in &pieces {
         to_come[holder as usize] += 1;
     }
     let mut table = Vec::new();
-    for holder in holders {
-        let (balance, to_come) = (
-            &mut head.balances[holder as usize],
-            &mut to_come[holder as usize],
-        );
-        *to_come -= 1;
-        let weight = match (heavy, *to_come) {
+    for [holder, origin] in pieces {
+        let balance = balance_of(&mut head, holder);
+        to_come[holder as usize] -= 1;
+        let weight = match (heavy, to_come[holder as usize]) {
             (false, _) => random.from_to(1, 9),
             (true, 0) => TOP - *balance,
             (true, later) => random.from_to(1, (TOP - *balance - later).min(TOP / 2)),
@@ -40,7 +54,7 @@ fn full_book(random: &mut Random, vessels: u32, places: usize, heavy: bool) -> (
         *balance += weight;
         let piece = Piece {
             holder,
-            origin: random.below(vessels),
+            origin,
             birth: random.any(),
             weight,
         };
@@ -52,7 +66,7 @@ fn full_book(random: &mut Random, vessels: u32, places: usize, heavy: bool) -> (
 /// The report piece by piece: the weight by origin in each vessel.
 fn added(head: &Head, table: &[u32]) -> Vec<u32> {
     let mut weights = vec![vec![0; head.vessels as usize]; head.vessels as usize];
-    for p in Piece::all(head, table) {
+    for p in Piece::all(head, table).filter(|p| p.holder != SCALE) {
         weights[p.holder as usize][p.origin as usize] += p.weight;
     }
     weights.concat()
@@ -76,16 +90,17 @@ fn asked(
     report
 }
 
-/// Row v is the held report of v, and column u what was born at u at any minute.
+/// Row v is the held report of v, and column u what was born at u at any minute. The room of each is so
+/// long that a number for the scale would lie in it.
 fn rows_and_columns(pair: &mut Pair, head: Head, table: &[u32], report: &[u32]) {
     let row = head.vessels as usize;
-    let mut room = vec![TOP; row];
+    let mut room = vec![TOP; VESSELS + 1];
     for v in 0..row {
         pair.held(head, table, v as u32, &mut room);
-        assert_eq!(room, report[v * row..][..row]);
+        assert_eq!(room[..row], report[v * row..][..row]);
         pair.spread(head, table, v as u32, (0, TOP), &mut room);
         let column = report[v..].iter().step_by(row);
-        assert!(room.iter().eq(column));
+        assert!(room[..row].iter().eq(column));
     }
 }
 
@@ -114,43 +129,59 @@ fn every_number_of_vessels() {
         let mut random = Random::new(104);
         let mut covered = Covered::default();
         for vessels in 1..=64 {
+            let mut origins = BTreeSet::new();
             for places in [1, 7, 64, 300] {
-                for heavy in [false, true] {
-                    let (head, table) = full_book(&mut random, vessels, places, heavy);
-                    let behind = random.index(70);
+                for filling in FILLINGS {
+                    let (head, table) = full_book(&mut random, vessels, places, filling);
+                    origins.extend(held_by(&head, &table, SCALE).iter().map(|p| p.origin));
+                    // A row for the scale would lie in the room.
+                    let behind = ((SCALE + 1 - vessels) * vessels) as usize + random.index(9);
                     let report = asked(&mut pair, &mut random, head, &table, behind);
                     assert_eq!(report, added(&head, &table));
                     rows_and_columns(&mut pair, head, &table, &report);
                     covered.add(&report, vessels as usize);
                 }
             }
+            assert!(origins.into_iter().eq(0..vessels), "a load of every origin");
         }
         pair.tally
             .print(&format!("whole, {} {covered:?}", pair.label()));
-        pair.tally.expect("whole", &[0, 13], 512);
+        for tally in [&pair.tally, &pair.beside] {
+            tally.expect("whole", &[0, 13], 512);
+            tally.expect("held", &[0], 15_000);
+            tally.expect("spread", &[0], 15_000);
+        }
         assert!(covered.zero > 10_000 && covered.top > 100 && covered.asymmetric > 10_000);
     }
 }
 
-/// 4,096 pieces, also on a table that is longer than that.
+/// 4,096 pieces, also on a table that is longer than that and in a room that is longer than the rows,
+/// by up to more than a row for the scale.
 #[test]
 fn full_tables() {
     for subject in subjects() {
         let mut pair = Pair::new(subject);
         let mut random = Random::new(105);
         for vessels in [1, 2, 3, 31, 63, 64] {
-            for heavy in [false, true] {
-                for more in [0, 3, 4, 1_000] {
-                    let (head, mut table) = full_book(&mut random, vessels, PLACES, heavy);
+            for filling in FILLINGS {
+                for more in [0, 3, 4, 3_000] {
+                    let (head, mut table) = full_book(&mut random, vessels, PLACES, filling);
                     table.extend(room(&mut random, more));
                     let report = asked(&mut pair, &mut random, head, &table, more);
                     assert_eq!(report, added(&head, &table));
+                    if more == 0 {
+                        rows_and_columns(&mut pair, head, &table, &report);
+                    }
                 }
             }
         }
         pair.tally
             .print(&format!("whole, full tables, {}", pair.label()));
-        pair.tally.expect("whole", &[0, 13], 48);
+        pair.tally.expect("whole", &[0, 13], 96);
+        pair.beside.expect("whole", &[0, 13], 48);
+        for report in ["held", "spread"] {
+            pair.beside.expect(report, &[0], 300);
+        }
     }
 }
 
@@ -172,38 +203,5 @@ fn six_movements() {
                 assert_eq!(report[9..], [7, 7]);
             }
         }
-    }
-}
-
-/// The least time of a hundred that such a report takes.
-fn least(whole: impl Fn(&mut [u32]) -> bool) -> Duration {
-    let mut report = vec![0; VESSELS * VESSELS];
-    let timed = |_| {
-        let begun = Instant::now();
-        assert!(whole(&mut report));
-        begun.elapsed()
-    };
-    (0..100).map(timed).min().expect("a hundred of them")
-}
-
-/// No number tells the two ways apart. Row by row a full table is gone over 64 times, which takes some
-/// thirteen times as long as once; twice is asked here, of the library's calls and of their typed face.
-#[test]
-fn one_pass_is_ahead() {
-    let (head, table) = full_book(&mut Random::new(106), VESSELS as u32, PLACES, false);
-    let (head, table) = (&head, &table[..]);
-    let times = [
-        (
-            least(|report| raw::whole(*head, table, report).number == 0),
-            least(|report| raw::whole_by_rows(*head, table, report).number == 0),
-        ),
-        (
-            least(|report| lumchaki::whole(head, table, report).is_ok()),
-            least(|report| lumchaki::whole_by_rows(head, table, report).is_ok()),
-        ),
-    ];
-    for (one_pass, by_rows) in times {
-        println!("whole, full table: {one_pass:?} in one pass, {by_rows:?} row by row");
-        assert!(2 * one_pass < by_rows);
     }
 }

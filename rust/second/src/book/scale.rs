@@ -10,14 +10,6 @@ impl Book {
         self.scale.iter().map(|lot| u64::from(lot.weight)).sum()
     }
 
-    /// What a report asks first.
-    pub(super) fn scale_is_bare(&self) -> Result<(), Refusal> {
-        if !self.scale.is_empty() {
-            return Err(Refusal::ScaleLoaded);
-        }
-        Ok(())
-    }
-
     /// The refusal of a lift, if one applies.
     fn lift_refusal(&self, l: &Lift) -> Option<Refusal> {
         let source = l.source as usize;

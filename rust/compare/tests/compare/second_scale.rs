@@ -1,0 +1,122 @@
+//! A second, empty scale, which no book has: a lift onto it and its tip, by hand. The pieces are kept in
+//! a list, and what happens to them follows the words of the documents, pick by pick.
+
+use calls::{places, Head, Lift, Piece, Refusal, Transfer, SCALE};
+use compare::tipped;
+use second::WeighBook;
+
+/// The holder number of a second scale.
+const SECOND_SCALE: u32 = SCALE + 1;
+
+/// Which half of a divided transfer was refused, with its number.
+#[derive(Clone, Copy, Debug, PartialEq)]
+pub enum Refused {
+    Lift(u32),
+    Tip(u32),
+}
+
+/// What a lift and its tip in succession leave.
+#[derive(Debug, PartialEq)]
+pub struct Left {
+    pub head: Head,
+    pub table: Vec<u32>,
+    /// The lift's answer: how many pieces moved whole, how many were split, the weight born.
+    pub counts: [u32; 3],
+}
+
+/// Where the piece lies that a rule picks from a vessel.
+fn picked(rule: u32, pieces: &[Piece], vessel: u32) -> Option<usize> {
+    let mut held = (0..pieces.len()).filter(|&i| pieces[i].holder == vessel);
+    let birth = |&i: &usize| pieces[i].birth;
+    match rule {
+        0 => held.next(),
+        1 => held.next_back(),
+        // On a tie these give the first and the last.
+        2 => held.min_by_key(birth),
+        _ => held.max_by_key(birth),
+    }
+}
+
+/// Takes weight from a vessel onto the second scale.
+fn lift(rule: u32, pieces: &mut Vec<Piece>, l: Lift) -> [u32; 3] {
+    let (mut whole, mut split, mut wanted) = (0, 0, l.weight);
+    while wanted > 0 {
+        let Some(at) = picked(rule, pieces, l.source) else {
+            break;
+        };
+        let mut joining = Piece {
+            holder: SECOND_SCALE,
+            ..pieces[at]
+        };
+        if joining.weight <= wanted {
+            pieces.remove(at);
+            whole += 1;
+        } else {
+            joining.weight = wanted;
+            pieces[at].weight -= wanted;
+            split += 1;
+        }
+        wanted -= joining.weight;
+        pieces.push(joining);
+    }
+    if wanted > 0 {
+        pieces.push(Piece {
+            holder: SECOND_SCALE,
+            origin: l.source,
+            birth: l.minute - u32::from(l.age),
+            weight: wanted,
+        });
+    }
+    [whole, split, wanted]
+}
+
+/// The weigh book of a head. Its scale is the second one.
+fn weigh_book(head: &Head) -> WeighBook {
+    let mut book = WeighBook::new(head.vessels);
+    for (weight, &balance) in book.weights.iter_mut().zip(&head.balances) {
+        *weight = balance.into();
+    }
+    book.last = head.last;
+    book.accepted = head.accepted;
+    book
+}
+
+/// A transfer on a book that adds up, divided by the second scale.
+pub fn by_hand(head: &Head, table: &[u32], t: Transfer) -> Result<Left, Refused> {
+    if table.len() < 4 {
+        return Err(Refused::Lift(Refusal::TableShort.number()));
+    }
+    let mut book = weigh_book(head);
+    let number = book.feed_lift(t.lift());
+    if number != 0 {
+        return Err(Refused::Lift(number));
+    }
+    let mut pieces: Vec<Piece> = Piece::all(head, table).collect();
+    let counts = lift(head.rule, &mut pieces, t.lift());
+    if pieces.len() > places(table) {
+        return Err(Refused::Lift(Refusal::TableFull.number()));
+    }
+    let number = book.feed_tip(t.tip());
+    if number != 0 {
+        return Err(Refused::Tip(number));
+    }
+    let pieces = tipped(pieces.into_iter(), SECOND_SCALE, t.destination);
+    let mut head = Head {
+        pieces: pieces.len() as u32,
+        last: book.last,
+        accepted: book.accepted,
+        ..*head
+    };
+    for (balance, &weight) in head.balances.iter_mut().zip(&book.weights) {
+        *balance = weight as u32;
+    }
+    let mut table = table.to_vec();
+    for (place, piece) in table.chunks_exact_mut(4).zip(&pieces) {
+        place.copy_from_slice(&piece.numbers());
+    }
+    Ok(Left {
+        head,
+        table,
+        counts,
+    })
+}
