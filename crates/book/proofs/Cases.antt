@@ -1,12 +1,12 @@
--- Worked cases: calls on a fresh book of three vessels, what is looked at afterwards, and what is to be seen then. `Marked`, `Ages` and `Scale` have
--- tables of them, over the definitions that the contracts cite.
+-- Worked cases: calls on a fresh book of three vessels, what is looked at afterwards, and what is to be seen then. `Marked`, `Ages`, `Scale` and
+-- `Load` have tables of them, over the definitions that the contracts cite.
 -- Assumes nothing.
 use Rattle.std.proofs.Common.{List, [], ◌∷◌, ◌++◌, map, ℕ, replicate}
 use Rattle.table.specs.Table.{pieces_of, flat}
 use Rattle.book.specs.declared.Transfer.{Transfer}
 use Rattle.book.specs.Head.{opening}
 use Rattle.book.specs.Calls.{Call, post}
-use Rattle.book.specs.Lists.{Journal, calls_on, evens}
+use Rattle.book.specs.Lists.{Journal, calls_on, evens, numbers}
 
 pub record Case : Type 0 where
   pub rule : ℕ
@@ -31,3 +31,7 @@ seen c = c.look (calls_on (opening c.rule 3).head lent c.given)
 -- a look at the pieces and the even count
 abbrev pub pieces : Journal → List ℕ
 pieces r = flat (pieces_of r.head.pieces r.table) ++ evens r.log ∷ []
+
+-- and at the number of each call
+abbrev pub answers : Journal → List ℕ
+answers r = numbers r.log

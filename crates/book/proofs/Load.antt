@@ -28,14 +28,14 @@ use Rattle.book.specs.Scale.{lift_of, tip_of, lift_checks, tip_checks}
 use Rattle.book.specs.Reports.{rows, report_row, report_checks, onto}
 use Rattle.book.specs.Calls.{Call, post, lift, tip, ask, meaning}
 use Rattle.book.specs.Memory.{Outcome, number_of, book_checks, call_on}
-use Rattle.book.specs.Lists.{Journal, calls_on, tips_in, tips, numbers}
+use Rattle.book.specs.Lists.{calls_on, tips_in, tips}
 use Rattle.book.proofs.Sound.{takes_law}
 use Rattle.book.proofs.Memory.{call_number, accepted_on, refused_memory, on_number, number_split, number_same, book_passed, back, in_step}
 use Rattle.book.proofs.Known.{adds_up_told, adds_sound, adds_on}
 use Rattle.book.proofs.InWords.{passed_own, accepted_book, post_fit, fit_lift, tip_in_words}
 use Rattle.book.proofs.ReportLaws.{row_unloaded}
 use Rattle.book.proofs.Scale.{post_scale}
-use Rattle.book.proofs.Cases.{Case, called, seen, pieces}
+use Rattle.book.proofs.Cases.{Case, called, seen, pieces, answers}
 
 -- what is on the scale, in the order it lies
 abbrev pub load : Head → List ℕ → List Piece
@@ -199,9 +199,6 @@ waiting =
 
 abbrev returned : List Call
 returned = waiting ++ (tip (tip_of 0 5) ∷ post (transfer_of 0 2 5 4 0) ∷ [])
-
-abbrev answers : Journal → List ℕ
-answers r = numbers r.log
 
 unfoldable pub cases : List Case
 cases =

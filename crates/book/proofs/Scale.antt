@@ -20,12 +20,12 @@ use Rattle.book.specs.Scale.{lift_of, tip_of, lift_part, tip_part, lift_checks, 
 use Rattle.book.specs.Calls.{Call, post, lift, tip}
 use Rattle.book.specs.Memory.{book_checks, number_of, call_on}
 use Rattle.book.specs.WeighBook.{WeighBook, weighed}
-use Rattle.book.specs.Lists.{Journal, calls_on, numbers}
+use Rattle.book.specs.Lists.{Journal, calls_on}
 use Rattle.book.proofs.Memory.{on_number, book_passed}
 use Rattle.book.proofs.Known.{adds_up_told}
 use Rattle.book.proofs.Sound.{held_after}
 use Rattle.book.proofs.InWords.{post_fit, accepted_book}
-use Rattle.book.proofs.Cases.{Case, called, seen, pieces}
+use Rattle.book.proofs.Cases.{Case, called, seen, pieces, answers}
 use Rattle.book.proofs.Marked.{six}
 
 -- on a head and a table that checks 1 and 4 let pass
@@ -55,9 +55,6 @@ tip_weighed w y ne = grind (arith, nat_tests)
 abbrev both : List Transfer → List Call
 both [] = []
 both (x ∷ xs) = lift (lift_part x) ∷ tip (tip_part x) ∷ both xs
-
-abbrev answers : Journal → List ℕ
-answers r = numbers r.log
 
 -- what is on the scale, the last minute, how many were accepted, and the pieces
 abbrev held_up : Journal → List ℕ
