@@ -13,7 +13,7 @@ impl Posting for Transfer {
 
     ghost rule = { λ _ rule. rule };
 
-    #[tactic(auto, unfolding(book::specs::Transfer::transfer_checks, book::specs::Head::balance_at))]
+    #[tactic(auto, unfolding(book::specs::Transfer::transfer_checks))]
     fn check(self, head: Head) -> Result<(), Refusal> {
         if head.vessels <= self.source || head.vessels <= self.destination {
             return Err(Refusal::NoVessel);
