@@ -56,7 +56,10 @@ impl Tally for BornAt {
         if p.origin != self.origin {
             return None;
         }
-        let counts = p.holder != SCALE && (self.from..=self.to).contains(&p.birth);
+        if p.holder == SCALE {
+            return None;
+        }
+        let counts = (self.from..=self.to).contains(&p.birth);
         counts.then_some(p.holder as usize)
     }
 }

@@ -51,9 +51,9 @@ pub fn spread(
     }
     let report = &mut report[..vessels];
     report.fill(0);
-    for &[holder, of, birth, weight] in pieces(head, table) {
-        if holder != SCALE && of == origin && from <= birth && birth <= to {
-            report[holder as usize] += weight;
+    for p in pieces(head, table) {
+        if p[1] == origin && p[0] != SCALE && from <= p[2] && p[2] <= to {
+            report[p[0] as usize] += p[3];
         }
     }
     Ok(())
