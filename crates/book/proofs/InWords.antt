@@ -20,7 +20,7 @@ use Rattle.book.specs.declared.Lift.{Lift}
 use Rattle.book.specs.declared.Tip.{Tip}
 use Rattle.book.specs.declared.Motion.{Motion}
 use Rattle.book.specs.declared.Report.{Report}
-use Rattle.book.specs.Head.{the_scale, book_of}
+use Rattle.book.specs.Head.{the_scale, book_of, rule_at}
 use Rattle.book.specs.Motion.{of_book, takes}
 use Rattle.book.specs.Transfer.{transfer_checks, motion_of}
 use Rattle.book.specs.Scale.{lift_checks, lift_motion}
@@ -53,9 +53,9 @@ module _ (h : Head) (t : List ℕ) where
   unfolding lift_checks
   fit_lift x e = grind (arith, nat_tests, passed_own (lift x) e)
 
-  -- what takes weight from a vessel, by the rule of the book
+  -- what takes weight from a vessel, by the rule of its source
   abbrev moved : Motion → Moved
-  moved m = in_table h.rule m.moves ps
+  moved m = in_table (rule_at h.rules m.moves.source) m.moves ps
 
   abbrev InWords : Call → Motion → Type 0
   InWords c m = ((call_on h t c).table ≡ lay (moved m).pieces t) × ((call_on h t c).answer ≡ moved_answer (moved m))
@@ -65,14 +65,14 @@ module _ (h : Head) (t : List ℕ) where
   in_words x z =
       let e = sym (call_number h t (post x)) ∙ z in
       let apart = (post_fit x e).apart in
-      rw (e, taken_in_table h.rule (motion_of x).moves ps (λ q. apart (sym q))) (refl, refl)
+      rw (e, taken_in_table _ (motion_of x).moves ps (λ q. apart (sym q))) (refl, refl)
 
   pub lift_in_words : (x : Lift) → (call_on h t (lift x)).number ≡ 0 → InWords (lift x) (lift_motion the_scale x)
   unfolding call_on takes
   lift_in_words x z =
       let e = sym (call_number h t (lift x)) ∙ z in
       let k = (accepted_book (lift x) e).vessels_fit in
-      rw (e, taken_in_table h.rule (lift_motion the_scale x).moves ps (λ q. omega (arith, (fit_lift x e).source_in))) (refl, refl)
+      rw (e, taken_in_table _ (lift_motion the_scale x).moves ps (λ q. omega (arith, (fit_lift x e).source_in))) (refl, refl)
 
   pub tip_in_words : (y : Tip) → (call_on h t (tip y)).number ≡ 0
       → (call_on h t (tip y)).table ≡ lay (elsewhere the_scale ps ++ map (hand_to y.destination) (held_by the_scale ps)) t

@@ -7,7 +7,7 @@ ghost use Rattle.book.specs.Memory.{book_checks};
 ghost use Rattle.ledger.specs.Audit.{covers, drained};
 
 use super::opening;
-use book::{BALANCES, HOLDERS, Head, SCALE};
+use book::{MOST_VESSELS, HOLDERS, Head, SCALE};
 use refusal::Refusal;
 use table::Piece;
 use table::reading::Pieces;
@@ -81,8 +81,8 @@ fn is_balanced(head: Head, pieces: &Pieces) -> bool
     ensures { result ≡ all_of (balanced head pieces.now) }
 {
     let mut balances = [0u32; HOLDERS];
-    balances[..BALANCES].copy_from_slice(&head.balances);
-    balances[BALANCES] = head.scale;
+    balances[..MOST_VESSELS].copy_from_slice(&head.balances);
+    balances[MOST_VESSELS] = head.scale;
     let limits = Limits {
         vessels: head.vessels,
         last: head.last,

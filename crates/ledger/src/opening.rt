@@ -4,14 +4,14 @@ ghost use Rattle.refusal.specs.Numbers.{first};
 ghost use Rattle.refusal.specs.Refusals.{outcome_number};
 ghost use Rattle.book.specs.Head.{empty_head, not_opened, open_checks, opening};
 
-use book::{BALANCES, Head, Reply};
+use book::{MOST_VESSELS, Head, Reply};
 use refusal::Refusal;
 
 // The rules are numbered from 0 to this.
 pub const LAST_RULE: u32 = 3;
 
 // A book has at most this many vessels.
-pub const VESSELS: u32 = BALANCES as u32;
+pub const VESSELS: u32 = MOST_VESSELS as u32;
 
 // A head with this rule and this many vessels, and all other numbers 0.
 pub fn empty_head(rule: u32, vessels: u32) -> Head
@@ -23,7 +23,7 @@ pub fn empty_head(rule: u32, vessels: u32) -> Head
         pieces: 0,
         last: 0,
         accepted: 0,
-        balances: [0u32; BALANCES],
+        balances: [0u32; MOST_VESSELS],
         scale: 0,
     }
 }
