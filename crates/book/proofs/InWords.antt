@@ -98,15 +98,16 @@ module _ (h : Head) (t : List ℕ) where
   pub report_refused : (q : Report) (room : List ℕ) → ((call_on h t (ask q room)).number ≡ 0 → ⊥) → (call_on h t (ask q room)).room ≡ room
   report_refused q room nz = rw (refused_on h t (ask q room) _ (sym (call_number h t (ask q room))) nz)
 
+  -- a setting, refused or accepted, writes nothing
+  pub set_writes_nothing : (s : Setting) → (call_on h t (set_rule s)).table ≡ t
+  unfolding call_on
+  set_writes_nothing s = grind arith
+
   -- "A new call sets [a vessel's rule] at any moment for later picks": of all numbers of head and table just that one changes, and the vessel is picked
   -- from by it, any other as before.
   pub ruled_is : (s : Setting) → number_of h t (set_rule s) ≡ 0 → (call_on h t (set_rule s)).head ≡ ruled h s
   unfolding call_on ruled
   ruled_is s e = rw e (ap (λ (k : Head). ruled k s) (sym (adds_head h t (accepted_book (set_rule s) e))))
-
-  table_is : (s : Setting) → number_of h t (set_rule s) ≡ 0 → (call_on h t (set_rule s)).table ≡ t
-  unfolding call_on
-  table_is s e = rw e refl
 
   pub set_in_words : (s : Setting) → (call_on h t (set_rule s)).number ≡ 0 → length h.rules ≡ most_vessels
       → let o = call_on h t (set_rule s) in
@@ -116,4 +117,4 @@ module _ (h : Head) (t : List ℕ) where
       let e = sym (call_number h t (set_rule s)) ∙ z in
       let few = (accepted_book (set_rule s) e).vessels_fit in
       let f = setting_fit h.vessels s (passed_own (set_rule s) e) in
-      rw (ruled_is s e) (refl, table_is s e, set_at s.vessel s.rule h.rules (omega (arith, f.vessel_in)) long, λ v u. set_others s.vessel s.rule v h.rules u)
+      rw (ruled_is s e) (refl, set_writes_nothing s, set_at s.vessel s.rule h.rules (omega (arith, f.vessel_in)) long, λ v u. set_others s.vessel s.rule v h.rules u)
