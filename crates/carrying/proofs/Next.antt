@@ -81,7 +81,7 @@ module _ (h : Head) (t : List ℕ) (w : Audited h t) (m : Motion) where
         grind (arith, k.few, places_fit t p p ep, present)
 
     module _ (p : ℕ) (ep : p ≡ places_of t) (rule : ℕ) (er : rule ≡ rule_at h.rules m.moves.source) (t' : List ℕ) (o : Option Applied)
-          (moves : Moves h.pieces p rule m.moves t t' o) where
+        (moves : Moves h.pieces p rule m.moves t t' o) where
       -- it was carried, whatever is answered where it was not
       module _ (a : Applied) (why : Refusal) (k : Result Applied Refusal) (ek : k ≡ ok_or o why) (ea : k ≡ Ok a) where
         -- what the next head asks

@@ -24,8 +24,14 @@ module _ (a b c d e : ℕ) (room : List ℕ) where
   pub other_kinds : (kind : ℕ) → 7 ≤ kind → call kind ≡ ask Whole room
   unfolding call_in
   other_kinds kind h =
-      rw (ne_eqb kind 0 (λ z. omega arith), ne_eqb kind 1 (λ z. omega arith), ne_eqb kind 2 (λ z. omega arith), ne_eqb kind 4 (λ z. omega arith), ne_eqb kind 5 (λ z. omega arith),
-      ne_eqb kind 6 (λ z. omega arith))
+      rw (
+        ne_eqb kind 0 (λ z. omega arith),
+        ne_eqb kind 1 (λ z. omega arith),
+        ne_eqb kind 2 (λ z. omega arith),
+        ne_eqb kind 4 (λ z. omega arith),
+        ne_eqb kind 5 (λ z. omega arith),
+        ne_eqb kind 6 (λ z. omega arith),
+      )
 
   -- a transfer's fifth argument and a lift's fourth, and no other number of a call
   pub ages : (age_off (numbers 0 a b c d e) ≡ ltb 65535 e) × (age_off (numbers 4 a b c d e) ≡ ltb 65535 d)

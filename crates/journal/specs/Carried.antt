@@ -50,7 +50,7 @@ unfoldable pub call_in : List ℕ → List ℕ → Call
 call_in l room =
     let kind = get_or l 0 0 in
     cond (eqb kind 0) (post (transfer_in l))
-        (cond (eqb kind 4) (lift (lift_in l)) (cond (eqb kind 5) (tip (tip_in l)) (cond (eqb kind 6) (set_rule (setting_in l)) (ask (report_in l) room))))
+    (cond (eqb kind 4) (lift (lift_in l)) (cond (eqb kind 5) (tip (tip_in l)) (cond (eqb kind 6) (set_rule (setting_in l)) (ask (report_in l) room))))
 
 -- the age in the first six numbers, 0 where the call has none; whether it is above the largest, and whether one of the first n calls has such an age
 abbrev pub age_in : List ℕ → ℕ

@@ -20,7 +20,7 @@ abbrev pub listed : List ℕ → Call
 listed l =
     let kind = get_or l 0 0 in
     cond (eqb kind 0) (Transfer (transfer_in l))
-        (cond (eqb kind 4) (Lift (lift_in l)) (cond (eqb kind 5) (Tip (tip_in l)) (cond (eqb kind 6) (Setting (setting_in l)) (Report (report_in l)))))
+    (cond (eqb kind 4) (Lift (lift_in l)) (cond (eqb kind 5) (Tip (tip_in l)) (cond (eqb kind 6) (Setting (setting_in l)) (Report (report_in l)))))
 
 -- the same, where it has no age that is off
 unfoldable pub call_read : List ℕ → Result Call Refusal

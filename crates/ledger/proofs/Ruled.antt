@@ -1,12 +1,11 @@
 -- The setting of a rule on head and table: its number, past 1 and 4 that of its own checks; what it leaves; and where it is refused.
 -- Assumes nothing.
-use Rattle.std.proofs.Common.{◌≡◌, refl, sym, ap, ◌∙◌, List, ℕ, ◌<◌, arith}
+use Rattle.std.proofs.Common.{◌≡◌, refl, sym, ◌∙◌, List, ℕ, ◌<◌, arith}
 use Rattle.refusal.specs.Numbers.{first}
 use Rattle.refusal.specs.declared.Refusal.{Refusal}
 use Rattle.refusal.specs.Refusals as Refusals
 use Rattle.refusal.proofs.Refusals.{some_number}
 use Rattle.book.specs.declared.Head.{Head}
-use Rattle.book.specs.declared.Reply.{Reply}
 use Rattle.book.specs.declared.Setting.{Setting}
 use Rattle.book.specs.Head.{most_vessels, Sized}
 use Rattle.book.specs.Setting.{setting_checks, ruled}

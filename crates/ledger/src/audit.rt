@@ -8,7 +8,7 @@ ghost use Rattle.book.specs.Memory.{book_checks};
 ghost use Rattle.ledger.specs.Audit.{covers, drained};
 
 use super::opening::{self, LAST_RULE};
-use book::{MOST_VESSELS, HOLDERS, Head, SCALE};
+use book::{HOLDERS, Head, MOST_VESSELS, SCALE};
 use refusal::Refusal;
 use table::Piece;
 use table::reading::Pieces;

@@ -4,7 +4,7 @@ ghost use Rattle.refusal.specs.Numbers.{first};
 ghost use Rattle.refusal.specs.Refusals.{outcome_number};
 ghost use Rattle.book.specs.Head.{most_vessels, given_rules, empty_head, not_opened, open_checks, opening};
 
-use book::{MOST_VESSELS, Head, Reply};
+use book::{Head, MOST_VESSELS, Reply};
 use refusal::Refusal;
 
 // The rules are numbered from 0 to this.
