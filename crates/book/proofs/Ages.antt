@@ -16,7 +16,7 @@ use Rattle.book.specs.declared.Transfer.{Transfer}
 use Rattle.book.specs.Head.{book_of, tab, balances_of, every, same, adds_up, opening, rules_fit, all_zero, given_rules}
 use Rattle.book.specs.Motion.{Standing, takes}
 use Rattle.book.specs.Transfer.{transfer_of, transfer_checks, motion_of}
-use Rattle.book.specs.Calls.{Call, post}
+use Rattle.book.specs.Calls.{post}
 use Rattle.book.specs.Memory.{outcome, book_checks, number_of, call_on}
 use Rattle.book.specs.WeighBook.{WeighBook, blank, of_weigh, weighed, weigh_number, feed}
 use Rattle.book.specs.Lists.{calls_on}
@@ -28,10 +28,7 @@ use Rattle.book.proofs.Former.{bare_book}
 use Rattle.book.proofs.Cases.{Case, worked, seen, pieces}
 
 module _ (h : Head) (t : List ℕ) (s d m q : ℕ) (z : h.scale ≡ 0) (unset : h.rules ≡ given_rules h.rule h.vessels) where
-  abbrev now : Call
-  now = post (unaged s d m q)
-
-  own_number : first ((one_rule now).checks (places_of t) (book_of h t)) ≡ first ((former_meaning s d m q).checks (places_of t) (book_of h t))
+  own_number : first ((one_rule (post (unaged s d m q))).checks (places_of t) (book_of h t)) ≡ first ((former_meaning s d m q).checks (places_of t) (book_of h t))
   unfolding transfer_checks
   own_number = rw (le-ltb m 0 (omega arith), sub-zero)
 
@@ -39,16 +36,16 @@ module _ (h : Head) (t : List ℕ) (s d m q : ℕ) (z : h.scale ≡ 0) (unset : 
   unfolding book_checks
   same_checks = sym (same_book h t unset) ∙ rw (bare_book h t z unset)
 
-  same_number : one_rule_number h t now ≡ former_number h t s d m q
+  same_number : one_rule_number h t (post (unaged s d m q)) ≡ former_number h t s d m q
   same_number =
       let former = first_append (former_book_checks h t) ((former_meaning s d m q).checks (places_of t) (book_of h t)) tt in
-      grind (arith, former_split h t unset now, own_number, same_checks, former)
+      grind (arith, former_split h t unset (post (unaged s d m q)), own_number, same_checks, former)
 
-  pub age_zero : call_on h t now ≡ former_on h t s d m q
+  pub age_zero : call_on h t (post (unaged s d m q)) ≡ former_on h t s d m q
   unfolding one_rule_on
-  age_zero = as_before h t unset now refl ∙ rw same_number (go (former_number h t s d m q))
+  age_zero = as_before h t unset (post (unaged s d m q)) refl ∙ rw same_number (go (former_number h t s d m q))
     where
-      go : (n : ℕ) → outcome h t (one_rule now) n ≡ outcome h t (former_meaning s d m q) n
+      go : (n : ℕ) → outcome h t (one_rule (post (unaged s d m q))) n ≡ outcome h t (former_meaning s d m q) n
       go zero = rw sub-zero
       go (suc n) = refl
 

@@ -9,6 +9,7 @@ pub mod Memory
 pub mod Known
 pub mod After
 pub mod Lists
+pub mod Alike
 pub mod OneRule
 pub mod Former
 pub mod Cases
@@ -19,5 +20,6 @@ pub mod SecondScale
 pub mod Succession
 pub mod Scale
 pub mod Load
+pub mod Mixed
 pub mod Edges
 pub mod ReportLaws
