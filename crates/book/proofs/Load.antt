@@ -1,6 +1,6 @@
 -- BESIDE A LOADED SCALE. "Transfers and reports are now allowed with weight on the scale; 22 is left for lift alone": `loaded_refuses`, `lift_alone`.
 -- Whatever is called but tips, the load stays on the scale as it is, in its order (`load_waits`): a transfer takes from its source and joins the end,
--- a lift is refused, and a report changes nothing. "A tip brings them in behind all that d received meanwhile": `tip_comes_last`. "Pieces on it are in
+-- a lift is refused, and a report and the setting of a rule move nothing. "A tip brings them in behind all that d received meanwhile": `tip_comes_last`. "Pieces on it are in
 -- no vessel, and no vessel's report includes them": `report_unloaded`. Nor does it play a part in a transfer: `load_apart`. All that on small cases: `tip_behind`, `left_out`, `waited`.
 -- Assumes nothing.
 use Rattle.std.proofs.Common.{◌≡◌, refl, sym, ap, ◌∙◌, ◌≢◌, List, [], ◌∷◌, ◌++◌, map, ℕ, ◌+◌, ne_eqb, zero, suc, ◌<◌, arith, length, take, replicate}
@@ -19,12 +19,14 @@ use Rattle.book.specs.declared.Head.{Head}
 use Rattle.book.specs.declared.Transfer.{Transfer}
 use Rattle.book.specs.declared.Lift.{Lift}
 use Rattle.book.specs.declared.Tip.{Tip}
+use Rattle.book.specs.declared.Setting.{Setting}
 use Rattle.book.specs.declared.Report.{Report}
 use Rattle.book.specs.declared.Report.TheVariants.{Held, Spread, Whole}
 use Rattle.book.specs.Head.{Book, the_scale, book_of, tab, balances_of, every, same, adds_up, opening, rules_fit, all_zero, given_rules, rule_at}
 use Rattle.book.specs.Motion.{of_book, takes}
 use Rattle.book.specs.Transfer.{transfer_of, transfer_checks, motion_of}
 use Rattle.book.specs.Scale.{lift_of, tip_of, lift_checks, tip_checks}
+use Rattle.book.specs.Setting.{setting_checks}
 use Rattle.book.specs.Reports.{rows, report_row, report_checks, onto}
 use Rattle.book.specs.Calls.{Call, post, lift, tip, set_rule, ask, meaning}
 use Rattle.book.specs.Memory.{Outcome, number_of, book_checks, call_on}
@@ -55,9 +57,10 @@ module _ (h : Head) (t : List ℕ) where
   unfolding lift_checks
   loaded_refuses u e x = let a = adds_up_told h t (book_passed h t e).1 in grind (arith, nat_tests, a.scale_is, on_number h t (lift x) 0 (sym e) refl)
 
-  pub lift_alone : (x : Transfer) (y : Tip) (q : Report) (room : List ℕ) → (number_of h t (post x) ≢ 22) × (number_of h t (tip y) ≢ 22) × (number_of h t (ask q room) ≢ 22)
-  unfolding book_checks transfer_checks tip_checks report_checks
-  lift_alone x y q room = grind (arith, number_split h t (post x), number_split h t (tip y), number_split h t (ask q room))
+  pub lift_alone : (x : Transfer) (y : Tip) (s : Setting) (q : Report) (room : List ℕ)
+      → (number_of h t (post x) ≢ 22) × (number_of h t (tip y) ≢ 22) × (number_of h t (set_rule s) ≢ 22) × (number_of h t (ask q room) ≢ 22)
+  unfolding book_checks transfer_checks tip_checks setting_checks report_checks
+  lift_alone x y s q room = grind (arith, number_split h t (post x), number_split h t (tip y), number_split h t (set_rule s), number_split h t (ask q room))
 
   -- What is on the scale stays there, whatever is called but a tip.
   module _ (loaded : h.scale ≢ 0) where

@@ -10,7 +10,7 @@ use Rattle.refusal.specs.Numbers.{Check, ◌if◌, first, if_zero}
 use Rattle.refusal.proofs.Numbers.{named, first_append}
 use Rattle.book.specs.declared.Head.{Head}
 use Rattle.book.specs.declared.Motion.{Motion}
-use Rattle.book.specs.Head.{Book, most_vessels, the_scale, given_rules, adds_up, book_of}
+use Rattle.book.specs.Head.{Book, most_vessels, the_scale, given_rules, adds_up, book_of, open_checks, opens, opening}
 use Rattle.book.specs.Motion.{of_book, takes, pieces_after}
 use Rattle.book.specs.Transfer.{transfer_checks, motion_of}
 use Rattle.book.specs.Scale.{lift_checks, lift_motion}
@@ -101,3 +101,12 @@ never_set (c ∷ cs) h t unset = go (sets_rule c) refl (never_set cs)
         → calls_on h t (cond s (without_settings cs) (c ∷ without_settings cs)) ≡ one_rule_calls h t (cond s (without_settings cs) (c ∷ without_settings cs))
     go true e rest = rest h t unset
     go false e rest = rw (← (as_before h t unset c e)) (ap (noted c (call_on h t c)) (rest (call_on h t c).head (call_on h t c).table (still_unset h t unset c e)))
+
+-- so from any opening on
+pub opened_unset : (rule size : ℕ) → let h = (opening rule size).head in h.rules ≡ given_rules h.rule h.vessels
+unfolding opening
+opened_unset rule size = go (first (open_checks rule size))
+  where
+    go : (n : ℕ) → let h = (opens rule size n).head in h.rules ≡ given_rules h.rule h.vessels
+    go zero = refl
+    go (suc n) = refl

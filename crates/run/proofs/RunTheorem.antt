@@ -1,6 +1,6 @@
 -- A RUN IS THE FOLD OF DOCUMENT 01'S TRANSFERS over the movements read: it ends with the head, the table and the even count that calling
 -- the transfers in turn gives, up to and with the first that is refused. So demand 3 holds of it; and nothing is on the scale at its end, as a
--- sheet knows no lift (`run_bare`).
+-- sheet knows no lift (`run_bare`), and every pick goes by its one rule (`run_one_rule`).
 -- Assumes nothing.
 use Rattle.std.proofs.Common.{◌≡◌, refl, sym, ap, ◌∙◌, List, [], ◌∷◌, ◌++◌, map, ℕ, zero, suc, ◌+◌, ◌-◌, ◌≤◌, arith, length, take, replicate}
 use Rattle.refusal.specs.Numbers.{first, if_zero}
@@ -10,10 +10,12 @@ use Rattle.book.specs.declared.Transfer.{Transfer}
 use Rattle.book.specs.Head.{empty_head, open_checks, opens, opening}
 use Rattle.book.specs.Calls.{Call, post}
 use Rattle.book.specs.Memory.{Outcome, call_on}
-use Rattle.book.specs.Lists.{calls_on, evens, numbers, Demand3}
+use Rattle.book.specs.Lists.{Journal, calls_on, without_settings, evens, numbers, Demand3}
+use Rattle.book.specs.OneRule.{one_rule_calls}
 use Rattle.book.proofs.Memory.{refused_memory, refused_even}
 use Rattle.book.proofs.Lists.{demand_3}
 use Rattle.book.proofs.Scale.{post_scale}
+use Rattle.book.proofs.OneRule.{never_set, opened_unset}
 use Rattle.sheet.specs.Sheet.{rule_of, vessels_of, movements_of, read_number}
 use Rattle.run.specs.Run.{transfers_of, Running, ended, go_on, run_from, run_number, running}
 use Rattle.fields.proofs.GroupLaws.{length_groups}
@@ -142,3 +144,18 @@ run_bare s t = go (run_number s t) refl
         let f = (run_theorem s t e).folded in
         ap (λ (h : Head). h.scale) f.head_is ∙ posts_scale (take f.tried (transfers_of s)) fresh t ∙ opened_bare (rule_of s) (vessels_of s)
     go (suc n) e = ap (λ (r : Running). r.answer.head.scale) (refused_run s t n e)
+
+-- "Sheets still carry one rule": a run leaves what its transfers did while a book had one rule.
+without_posts : (xs : List Transfer) → without_settings (map post xs) ≡ map post xs
+without_posts [] = refl
+without_posts (x ∷ xs) = ap (λ (cs : List Call). post x ∷ cs) (without_posts xs)
+
+pub run_one_rule : (s t : List ℕ) (e : run_number s t ≡ 0)
+    → let r = running s t in
+    let j = one_rule_calls (opening (rule_of s) (vessels_of s)).head t (calls_from (run_theorem s t e).folded.tried (transfers_of s)) in
+    (r.answer.head ≡ j.head) × (r.table ≡ j.table)
+run_one_rule s t e =
+    let f = (run_theorem s t e).folded in
+    let xs = take f.tried (transfers_of s) in
+    let same = rw (without_posts xs) at (never_set (map post xs) (opening (rule_of s) (vessels_of s)).head t (opened_unset (rule_of s) (vessels_of s))) in
+    (f.head_is ∙ ap (λ (j : Journal). j.head) same, f.table_is ∙ ap (λ (j : Journal). j.table) same)
