@@ -1,7 +1,8 @@
 -- BESIDE A LOADED SCALE. "Transfers and reports are now allowed with weight on the scale; 22 is left for lift alone": `loaded_refuses`, `lift_alone`.
 -- Whatever is called but tips, the load stays on the scale as it is, in its order (`load_waits`): a transfer takes from its source and joins the end,
--- a lift is refused, and a report and the setting of a rule move nothing. "A tip brings them in behind all that d received meanwhile": `tip_comes_last`. "Pieces on it are in
--- no vessel, and no vessel's report includes them": `report_unloaded`. Nor does it play a part in a transfer: `load_apart`. All that on small cases: `tip_behind`, `left_out`, `waited`.
+-- a lift is refused, and a report and the setting of a rule move nothing. "A tip brings them in behind all that d received meanwhile":
+-- `tip_comes_last`. "Pieces on it are in no vessel, and no vessel's report includes them": `report_unloaded`. Nor does it play a part in a transfer:
+-- `load_apart`. All that on small cases: `tip_behind`, `left_out`, `waited`.
 -- Assumes nothing.
 use Rattle.std.proofs.Common.{◌≡◌, refl, sym, ap, ◌∙◌, ◌≢◌, List, [], ◌∷◌, ◌++◌, map, ℕ, ◌+◌, ne_eqb, zero, suc, ◌<◌, arith, length, take, replicate}
 use Rattle.std.proofs.lemmas.Bool.Decides.{nat_tests}
