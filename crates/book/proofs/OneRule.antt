@@ -88,16 +88,16 @@ module _ (h : Head) (t : List ℕ) (unset : h.rules ≡ given_rules h.rule h.ves
   pub still_unset : (c : Call) → sets_rule c ≡ false → let z = (call_on h t c).head in z.rules ≡ given_rules z.rule z.vessels
   still_unset c u = rw (rules_kept h t c u, (rule_kept h t c).0, (rule_kept h t c).1) unset
 
-abbrev Alike : List Call → Type 0
-Alike cs = (h : Head) (t : List ℕ) → h.rules ≡ given_rules h.rule h.vessels → calls_on h t cs ≡ one_rule_calls h t cs
+abbrev AsBefore : List Call → Type 0
+AsBefore cs = (h : Head) (t : List ℕ) → h.rules ≡ given_rules h.rule h.vessels → calls_on h t cs ≡ one_rule_calls h t cs
 
 -- THE THEOREM: for every list of calls, any settings left out.
-pub never_set : (cs : List Call) → Alike (without_settings cs)
+pub never_set : (cs : List Call) → AsBefore (without_settings cs)
 unfolding calls_on one_rule_calls
 never_set [] h t unset = refl
 never_set (c ∷ cs) h t unset = go (sets_rule c) refl (never_set cs)
   where
-    go : (s : Bool) → sets_rule c ≡ s → Alike (without_settings cs)
+    go : (s : Bool) → sets_rule c ≡ s → AsBefore (without_settings cs)
         → calls_on h t (cond s (without_settings cs) (c ∷ without_settings cs)) ≡ one_rule_calls h t (cond s (without_settings cs) (c ∷ without_settings cs))
     go true e rest = rest h t unset
     go false e rest = rw (← (as_before h t unset c e)) (ap (noted c (call_on h t c)) (rest (call_on h t c).head (call_on h t c).table (still_unset h t unset c e)))
