@@ -78,7 +78,7 @@ pub record Sized (h : Head) : Type 0 where
   pub light : (v : ℕ) → balance_at h v ≤ TOP
   pub tally : h.accepted ≤ TOP
 
--- A book: what the head says, and the pieces in order of receipt. Its rule is that with which it was opened, and picks nothing.
+-- A book: what the head says, and the pieces in order of receipt. Its rule is that with which it was opened; pieces are picked by those of the vessels.
 pub record Book : Type 0 where
   pub rule : ℕ
   pub vessels : ℕ

@@ -20,7 +20,8 @@ pub record Outcome : Type 0 where
   pub room : List ℕ
   pub even : ℕ
 
--- "a transfer 1, 4, then 5 to 11 (21 straight after 8); reports 1, 4, 5, 12, 13. The first that applies is given." 22, a lift's, and 23, a tip's, come after 4.
+-- "a transfer 1, 4, then 5 to 11 (21 straight after 8); reports 1, 4, 5, 12, 13. The first that applies is given." 22, a lift's, and 23, a tip's, come after 4;
+-- the setting of a rule "checks 1, 4, 5, 2".
 unfoldable pub book_checks : Head → List ℕ → List Check
 book_checks h t = 1 if ltb (length t) 4 ∷ 4 if not (adds_up h t) ∷ []
 

@@ -21,7 +21,7 @@ of_book b = record { vessels = b.vessels; balance = λ v. held v b.pieces; last 
 abbrev pub of_head : Head → Standing
 of_head h = record { vessels = h.vessels; balance = balance_at h; last = h.last; accepted = h.accepted }
 
--- "A pick goes by the rule of its source": what a motion (the record `Motion` of src/lib.rt) takes from the book, and the pieces afterwards.
+-- What a motion (the record `Motion` of src/lib.rt) takes from the book, picked by the rule of its source, and the pieces afterwards.
 unfoldable pub takes : Book → Motion → Taken
 takes b m = taken (rule_at b.rules m.moves.source) m.moves b.pieces
 

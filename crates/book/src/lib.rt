@@ -30,7 +30,8 @@ pub struct Head {
     pub rules: [u32; MOST_VESSELS],
 }
 
-// What opening, a tip, the setting of a rule and a report answer. C gets it by value, as all answers here, so that a number tells a refusal: `Result` has no layout there.
+// What opening, a tip, the setting of a rule and a report answer. C gets it by value, as all answers here, so that a number tells a refusal: `Result` has
+// no layout there.
 #[repr(C)]
 #[derive(Clone, Copy, Debug, PartialEq, Eq)]
 pub struct Reply {
