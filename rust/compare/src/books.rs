@@ -1,16 +1,23 @@
 //! Books to compare on that add up.
 
 use crate::Random;
-use calls::{places, Head, Piece, SCALE, TOP};
+use calls::{places, Head, Piece, SCALE, TOP, VESSELS};
 
 /// Numbers to be overwritten: not zeros, so that what remains can be told.
 pub fn room(random: &mut Random, length: usize) -> Vec<u32> {
     (0..length).map(|_| random.any()).collect()
 }
 
+/// Any rule for each of so many vessels, and 0 behind them.
+pub fn mixed_rules(random: &mut Random, vessels: u32) -> [u32; VESSELS] {
+    let mut rules = [0; VESSELS];
+    rules[..vessels as usize].fill_with(|| random.below(4));
+    rules
+}
+
 /// A book that adds up, on a table of this length. Its pieces are not what a run would leave: births
 /// lie in any order and with many ties, weights may be small or reach up to TOP. One book in six has
-/// weight on the scale.
+/// weight on the scale. Every second one has its rule in every vessel, the others have any there.
 pub fn book(random: &mut Random, rule: u32, length: usize) -> (Head, Vec<u32>) {
     let loaded = random.once_in(6);
     filled(random, rule, length, loaded)
@@ -31,6 +38,10 @@ fn filled(random: &mut Random, rule: u32, length: usize, loaded: bool) -> (Head,
         last: random.one_of(&[0, 3, 1000, 65_534, 65_535, TOP - 1, TOP]),
         ..Head::ZERO
     };
+    head.rules[..head.vessels as usize].fill(rule);
+    if random.once_in(2) {
+        head.rules = mixed_rules(random, head.vessels);
+    }
     let some = random.below(places + 1);
     let count = random.one_of(&[places, places.saturating_sub(1), some]);
     let count = count.max(u32::from(loaded)).min(places) as usize;

@@ -6,8 +6,10 @@ use crate::Random;
 use calls::{places, Head, SCALE, TOP, VESSELS};
 
 /// The clauses of "adds up", each with a way to break it alone.
-pub const FOUL_CLAUSES: [&str; 21] = [
+pub const FOUL_CLAUSES: [&str; 23] = [
     "rule",
+    "rule of a vessel",
+    "rule beyond the vessels",
     "no vessels",
     "too many vessels",
     "pieces above places",
@@ -36,6 +38,7 @@ pub fn foul_book(random: &mut Random, clause: &str, head: &mut Head, table: &mut
     let vessels = head.vessels;
     match clause {
         "rule" => head.rule = near(random, &[4]).max(4),
+        "rule of a vessel" | "rule beyond the vessels" => return foul_rule(random, clause, head),
         "no vessels" => {
             // A book without pieces: nothing else is off.
             *head = Head {
@@ -70,6 +73,21 @@ pub fn foul_book(random: &mut Random, clause: &str, head: &mut Head, table: &mut
         "pieces on a scale of 0" if head.scale > 0 => head.scale = 0,
         _ => return head.pieces > 0 && foul_piece(random, clause, head, table),
     }
+    true
+}
+
+/// Breaks a clause about the vessels' rules, often at their first place, their last, or the last of all.
+fn foul_rule(random: &mut Random, clause: &str, head: &mut Head) -> bool {
+    let vessels = head.vessels;
+    let (first, last, known) = match clause {
+        "rule of a vessel" => (0, vessels - 1, 3),
+        _ if vessels == VESSELS as u32 => return false,
+        _ => (vessels, VESSELS as u32 - 1, 0),
+    };
+    let any = random.from_to(first, last);
+    let vessel = random.one_of(&[first, last, any]);
+    let rule = near(random, &[known + 1, 4, 256, 1 << 16]);
+    head.rules[vessel as usize] = rule.max(known + 1);
     true
 }
 

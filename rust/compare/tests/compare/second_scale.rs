@@ -92,7 +92,8 @@ pub fn by_hand(head: &Head, table: &[u32], t: Transfer) -> Result<Left, Refused>
         return Err(Refused::Lift(number));
     }
     let mut pieces: Vec<Piece> = Piece::all(head, table).collect();
-    let counts = lift(head.rule, &mut pieces, t.lift());
+    let rule = head.rules[t.source as usize];
+    let counts = lift(rule, &mut pieces, t.lift());
     if pieces.len() > places(table) {
         return Err(Refused::Lift(Refusal::TableFull.number()));
     }
