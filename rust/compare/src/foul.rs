@@ -37,8 +37,7 @@ pub const FOUL_CLAUSES: [&str; 23] = [
 pub fn foul_book(random: &mut Random, clause: &str, head: &mut Head, table: &mut [u32]) -> bool {
     let vessels = head.vessels;
     match clause {
-        "rule" => head.rule = near(random, &[4]).max(4),
-        "rule of a vessel" | "rule beyond the vessels" => return foul_rule(random, clause, head),
+        rule if rule.starts_with("rule") => return foul_rule(random, rule, head),
         "no vessels" => {
             // A book without pieces: nothing else is off.
             *head = Head {
@@ -76,18 +75,20 @@ pub fn foul_book(random: &mut Random, clause: &str, head: &mut Head, table: &mut
     true
 }
 
-/// Breaks a clause about the vessels' rules, often at their first place, their last, or the last of all.
+/// Breaks a clause about a rule: the book's, or those below or from V on, there often the first or the last.
 fn foul_rule(random: &mut Random, clause: &str, head: &mut Head) -> bool {
-    let vessels = head.vessels;
-    let (first, last, known) = match clause {
-        "rule of a vessel" => (0, vessels - 1, 3),
-        _ if vessels == VESSELS as u32 => return false,
-        _ => (vessels, VESSELS as u32 - 1, 0),
+    let vessels = head.vessels as usize;
+    let (rules, known) = match clause {
+        "rule" => (std::slice::from_mut(&mut head.rule), 3),
+        "rule of a vessel" => (&mut head.rules[..vessels], 3),
+        _ => (&mut head.rules[vessels..], 0),
     };
-    let any = random.from_to(first, last);
-    let vessel = random.one_of(&[first, last, any]);
-    let rule = near(random, &[known + 1, 4, 256, 1 << 16]);
-    head.rules[vessel as usize] = rule.max(known + 1);
+    let Some(last) = rules.len().checked_sub(1) else {
+        return false;
+    };
+    let any = random.index(rules.len());
+    let at = random.one_of(&[0, last, any]);
+    rules[at] = near(random, &[known + 1, 4, 256, 1 << 16]).max(known + 1);
     true
 }
 

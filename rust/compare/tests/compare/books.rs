@@ -182,15 +182,14 @@ fn heads_that_do_not_add_up() {
                     }
                     *count += 1;
                     let transfer = transfer_for(&mut random, &head, &table);
-                    let answer = pair.transfer(head, &mut table, transfer);
-                    assert_eq!(answer.number, OFF, "{clause}");
-                    let answer = pair.lift(head, &mut table, transfer.lift());
-                    assert_eq!(answer.number, OFF, "{clause}");
-                    let answer = pair.tip(head, &mut table, transfer.tip());
-                    assert_eq!(answer.number, OFF, "{clause}");
-                    let vessel = near(&mut random, &[0, head.vessels]);
-                    let answer = pair.set_rule(head, &table, vessel, near(&mut random, &[4]));
-                    assert_eq!(answer.number, OFF, "{clause}");
+                    let [vessel, rule] = [0, 4].map(|mark| near(&mut random, &[mark]));
+                    let numbers = [
+                        pair.set_rule(head, &table, vessel, rule).number,
+                        pair.transfer(head, &mut table, transfer).number,
+                        pair.lift(head, &mut table, transfer.lift()).number,
+                        pair.tip(head, &mut table, transfer.tip()).number,
+                    ];
+                    assert_eq!(numbers, [OFF; 4], "{clause}");
                     reports(&mut pair, &mut random, head, &table);
                 }
             }
@@ -254,13 +253,12 @@ fn any_head_and_any_table() {
             head.pieces = near(&mut random, &[1, 2, length as u32 / 4]);
             head.last = near(&mut random, &[2, 1000]);
             head.accepted = near(&mut random, &[3, 1000]);
-            for balance in &mut head.balances[..4] {
+            let vessels = head.balances.iter_mut().zip(&mut head.rules);
+            for (balance, rule) in vessels.take(4) {
                 *balance = near(&mut random, &[0, 0, 2]);
-            }
-            head.scale = near(&mut random, &[0, 0, 0, 2]);
-            for rule in &mut head.rules[..4] {
                 *rule = near(&mut random, &[0, 0, 1, 3]);
             }
+            head.scale = near(&mut random, &[0, 0, 0, 2]);
             if length > 0 && random.once_in(4) {
                 let at = random.index(length);
                 table[at] = near(&mut random, &[SCALE]);

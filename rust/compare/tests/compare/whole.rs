@@ -53,13 +53,7 @@ pub fn full_book(
             (true, later) => random.from_to(1, (TOP - *balance - later).min(TOP / 2)),
         };
         *balance += weight;
-        let piece = Piece {
-            holder,
-            origin,
-            birth: random.any(),
-            weight,
-        };
-        table.extend(piece.numbers());
+        table.extend([holder, origin, random.any(), weight]);
     }
     (head, table)
 }
