@@ -25,6 +25,7 @@ mod second_scale;
 mod sheet_order;
 mod sheets;
 mod stops;
+mod vector_lines;
 mod vectors;
 mod whole;
 #[cfg(feature = "library")]
