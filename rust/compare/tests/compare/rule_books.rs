@@ -1,11 +1,12 @@
 //! Rules that change on books: between the parts of one lot, on full tables, beside a loaded scale. It is
-//! counted how often a pick by another rule would have left something else.
+//! counted how often a pick by another rule would have left something else. The second implementation goes
+//! along on a book that it keeps itself, so that what a vessel holds is turned over at each setting.
 
 use crate::books::{lengths, reports, LONG};
 use crate::second_scale::picked;
-use calls::{places, Engine, Head, Piece, Transfer, Transferred, SCALE, TOP};
+use calls::{places, Engine, Head, Piece, Refusal, Transfer, Transferred, SCALE, TOP};
 use compare::{book, loaded_book, near, subjects, tip_for, Pair, Random};
-use second::Second;
+use second::{Book, Second};
 
 /// So many pieces are looked at before they are picked.
 const LOOKED_AT: usize = 3;
@@ -47,6 +48,7 @@ struct Giving<'g> {
     covered: &'g mut Covered,
     head: Head,
     table: Vec<u32>,
+    book: Book,
     vessel: u32,
     /// Where the lot lies of which a part went last, and the rule by which it did.
     parted: Option<(usize, u32)>,
@@ -73,6 +75,7 @@ impl Giving<'_> {
             rule = near(self.random, &[3]);
         }
         let answer = self.pair.set_rule(self.head, &self.table, vessel, rule);
+        assert_eq!(number_of(self.book.set_rule(vessel, rule)), answer.number);
         self.head = answer.head;
         if answer.number == 0 {
             let state = self.state();
@@ -112,7 +115,7 @@ impl Giving<'_> {
         weights.sum::<u32>() - stays
     }
 
-    /// Whether the giving vessel's other rule would have left something else.
+    /// Whether the giving vessel would have left something else by this rule.
     fn apart(&self, rule: u32, before: (Head, &[u32]), t: Transfer) -> bool {
         let (mut head, mut table) = (before.0, before.1.to_vec());
         head.rules[self.vessel as usize] = rule;
@@ -175,10 +178,17 @@ impl Giving<'_> {
         }
         let t = Transfer::new([self.vessel, destination, self.head.last, weight]);
         let (head, before, state) = (self.head, self.table.clone(), self.state());
-        let answer = match destination {
-            SCALE => self.pair.lift(head, &mut self.table, t.lift()),
-            _ => self.pair.transfer(head, &mut self.table, t),
+        let (answer, followed) = match destination {
+            SCALE => (
+                self.pair.lift(head, &mut self.table, t.lift()),
+                self.book.lift(t.lift()),
+            ),
+            _ => (
+                self.pair.transfer(head, &mut self.table, t),
+                self.book.transfer(t),
+            ),
         };
+        assert_eq!(number_of(followed), answer.number);
         self.head = answer.head;
         if answer.number == 0 {
             self.note(former, (head, &before), t, state);
@@ -198,12 +208,20 @@ impl Giving<'_> {
             if self.random.once_in(4) {
                 let tip = tip_for(self.random, &self.head);
                 let answer = self.pair.tip(self.head, &mut self.table, tip);
+                assert_eq!(number_of(self.book.tip(tip)), answer.number);
                 self.head = answer.head;
                 self.parted = self.parted.filter(|_| answer.number != 0);
             }
         }
+        assert_eq!(self.book.head(), self.head);
+        assert!(Piece::all(&self.head, &self.table).eq(self.book.pieces()));
         reports(self.pair, self.random, self.head, &self.table);
     }
+}
+
+/// 0 or the refusal's number.
+fn number_of<T>(result: Result<T, Refusal>) -> u32 {
+    result.err().map_or(0, Refusal::number)
 }
 
 /// The vessel that holds the most.
@@ -225,10 +243,13 @@ fn changes_of(subject: &'static dyn Engine) {
             if head.pieces == 0 {
                 continue;
             }
+            let pieces: Vec<Piece> = Piece::all(&head, &table).collect();
+            let book = Book::resume(&head, places(&table), &pieces);
             let mut giving = Giving {
                 pair: &mut pair,
                 random: &mut random,
                 covered: &mut covered,
+                book: book.expect("it adds up"),
                 vessel: heaviest(&head),
                 head,
                 table,

@@ -21,8 +21,8 @@ fn forecast(vessels: u32, list: &[Call]) -> Vec<(u32, &'static str)> {
 }
 
 /// The forecast, where it is owed: a table of at least 4 numbers has a place for each transfer and
-/// lift. The list was followed under some rules, with and without settings between its calls. Until a
-/// place is missing, smaller tables are told apart by nothing.
+/// lift. On a smaller one it holds up to the first 11. The list was followed under some rules, with and
+/// without settings between its calls.
 pub fn check_forecast(
     vessels: u32,
     length: usize,
