@@ -14,6 +14,7 @@ use Rattle.book.specs.Transfer.{motion_of}
 use Rattle.book.specs.Calls.{post, meaning}
 use Rattle.book.specs.Memory.{call_on}
 use Rattle.book.proofs.BalanceLaws.{balances_match, balance_held, fresh_head}
+use Rattle.book.proofs.RuleLaws.{given_fit}
 use Rattle.book.proofs.Checks.{fit}
 use Rattle.book.proofs.Sound.{number, SoundBook, SizedBook, motion_light, post_number, keeps}
 use Rattle.book.proofs.HeadLaws.{openable}
@@ -35,7 +36,7 @@ on_known places h t b on o z = known_up h t (rw on.head_is (sized_head places b 
 post_sized : (places : ℕ) (b : Book) (x : Transfer) → SizedBook b → number places b (post x) ≡ 0 → SizedBook ((meaning (post x)).next b)
 post_sized places b x z e =
     let f = fit (of_book b) x (post_number places b x e).0 in
-    record { light = motion_light b b.rule (motion_of x) z.light f.room; tally = let u = f.tally in omega (arith, z.tally) }
+    record { light = motion_light b (motion_of x) z.light f.room; tally = let u = f.tally in omega (arith, z.tally) }
 
 module _ (h : Head) (t : List ℕ) (k : Known h t) (x : Transfer) where
   pub known_after : Known (call_on h t (post x)).head (call_on h t (post x)).table
@@ -60,6 +61,7 @@ fresh places rule size e =
       vessels_fit = o.few_vessels;
       fits = omega arith;
       counted = omega arith;
+      rules_known = given_fit rule size o.rule_known;
       sound = done;
     }
 

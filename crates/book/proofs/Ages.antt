@@ -1,10 +1,10 @@
 -- THE AGE OF WHAT IS BORN. `age_zero`: a transfer of age 0 gives and leaves what the transfer without an age gave and left, on any table and any
--- head with nothing on the scale; `age_zero_weighed`: and so it is to the weigh book, whatever is on its scale. `before_time`: past 5 to 8 an age above the minute is 21, whatever the balances
+-- head with nothing on the scale, whose rules were never set; `age_zero_weighed`: and so it is to the weigh book, whatever is on its scale. `before_time`: past 5 to 8 an age above the minute is 21, whatever the balances
 -- are, so also where nothing would be born. `aged`: what ages do under rules 2 and 3, where births no longer follow the order of receipt, on
 -- small cases. `one_entry`: births of one vessel at different minutes, with ages that bring them to the same minute, are one entry of the
 -- weigh book.
 -- Assumes nothing.
-use Rattle.std.proofs.Common.{◌≡◌, refl, ◌∙◌, ◌≢◌, List, [], ◌∷◌, map, ℕ, zero, suc, ◌≤◌, ◌<◌, add-one, arith, lt-ltb, le-ltb}
+use Rattle.std.proofs.Common.{◌≡◌, refl, sym, ◌∙◌, ◌≢◌, List, [], ◌∷◌, map, ℕ, zero, suc, ◌≤◌, ◌<◌, add-one, arith, lt-ltb, le-ltb}
 use native.Mathlib.Nat.{sub-zero}
 use Rattle.table.specs.Table.{pieces_of, flat, places_of}
 use Rattle.taking.specs.Selection.{precedes}
@@ -13,40 +13,40 @@ use Rattle.refusal.specs.Numbers.{first}
 use Rattle.refusal.proofs.Numbers.{first_append}
 use Rattle.book.specs.declared.Head.{Head}
 use Rattle.book.specs.declared.Transfer.{Transfer}
-use Rattle.book.specs.Head.{book_of, tab, balances_of, every, same, adds_up, opening}
+use Rattle.book.specs.Head.{book_of, tab, balances_of, every, same, adds_up, opening, rules_fit, all_zero, given_rules}
 use Rattle.book.specs.Motion.{Standing, takes}
 use Rattle.book.specs.Transfer.{transfer_of, transfer_checks, motion_of}
-use Rattle.book.specs.Calls.{post, meaning}
+use Rattle.book.specs.Calls.{post}
 use Rattle.book.specs.Memory.{outcome, book_checks, number_of, call_on}
 use Rattle.book.specs.WeighBook.{WeighBook, blank, of_weigh, weighed, weigh_number, feed}
 use Rattle.book.specs.Lists.{calls_on}
+use Rattle.book.specs.OneRule.{one_rule, one_rule_checks, one_rule_number, one_rule_on}
 use Rattle.book.specs.Former.{unaged, former_checks, former_meaning, former_book_checks, former_number, former_on, former_weighed}
 use Rattle.book.proofs.Checks.{past_clock}
-use Rattle.book.proofs.Memory.{number_split}
+use Rattle.book.proofs.OneRule.{same_book, former_split, as_before}
 use Rattle.book.proofs.Former.{bare_book}
 use Rattle.book.proofs.Cases.{Case, worked, seen, pieces}
 
-module _ (h : Head) (t : List ℕ) (s d m q : ℕ) (z : h.scale ≡ 0) where
-  own_number : first ((meaning (post (unaged s d m q))).checks (places_of t) (book_of h t)) ≡ first ((former_meaning s d m q).checks (places_of t) (book_of h t))
-  unfolding transfer_checks takes
+module _ (h : Head) (t : List ℕ) (s d m q : ℕ) (z : h.scale ≡ 0) (unset : h.rules ≡ given_rules h.rule h.vessels) where
+  own_number : first ((one_rule (post (unaged s d m q))).checks (places_of t) (book_of h t)) ≡ first ((former_meaning s d m q).checks (places_of t) (book_of h t))
+  unfolding transfer_checks
   own_number = rw (le-ltb m 0 (omega arith), sub-zero)
 
-  same_book : first (book_checks h t) ≡ first (former_book_checks h t)
+  same_checks : first (one_rule_checks h t) ≡ first (former_book_checks h t)
   unfolding book_checks
-  same_book = rw (bare_book h t z)
+  same_checks = sym (same_book h t unset) ∙ rw (bare_book h t z unset)
 
-  same_number : number_of h t (post (unaged s d m q)) ≡ former_number h t s d m q
+  same_number : one_rule_number h t (post (unaged s d m q)) ≡ former_number h t s d m q
   same_number =
-      let split = number_split h t (post (unaged s d m q)) in
       let former = first_append (former_book_checks h t) ((former_meaning s d m q).checks (places_of t) (book_of h t)) tt in
-      grind (arith, split, own_number, same_book, former)
+      grind (arith, former_split h t unset (post (unaged s d m q)), own_number, same_checks, former)
 
   pub age_zero : call_on h t (post (unaged s d m q)) ≡ former_on h t s d m q
-  unfolding call_on takes
-  age_zero = rw same_number (go (former_number h t s d m q))
+  unfolding one_rule_on
+  age_zero = as_before h t unset (post (unaged s d m q)) refl ∙ rw same_number (go (former_number h t s d m q))
     where
-      go : (n : ℕ) → outcome h t (meaning (post (unaged s d m q))) n ≡ outcome h t (former_meaning s d m q) n
-      go zero = rw (sub-zero, add-one)
+      go : (n : ℕ) → outcome h t (one_rule (post (unaged s d m q))) n ≡ outcome h t (former_meaning s d m q) n
+      go zero = rw sub-zero
       go (suc n) = refl
 
 pub age_zero_weighed : (w : WeighBook) (s d m q : ℕ)
@@ -77,7 +77,7 @@ cases =
     ∷ []
 
 pub aged : map seen cases ≡ map (λ c. c.wanted) cases
-unfolding cases calls_on call_on number_of book_checks adds_up every same balances_of tab places_of pieces_of flat opening transfer_checks takes taken take_up_to precedes
+unfolding cases calls_on call_on number_of book_checks adds_up rules_fit all_zero every same balances_of tab places_of pieces_of flat opening transfer_checks takes taken take_up_to precedes
 aged = refl
 
 pub one_entry : (feed (blank 2) (map post (transfer_of 0 1 5 2 1 ∷ transfer_of 0 1 6 3 2 ∷ []))).births 0 4 ≡ 5

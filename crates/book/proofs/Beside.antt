@@ -11,8 +11,8 @@ use Rattle.book.specs.declared.Motion.{Motion}
 use Rattle.book.specs.Head.{Book, the_scale}
 use Rattle.book.specs.Motion.{Standing, of_book, book_after}
 use Rattle.book.specs.Transfer.{transfer_checks, motion_of}
-use Rattle.book.specs.Scale.{lift_checks, tip_checks, lift_motion, tip_motion, as_they_lie}
-use Rattle.book.specs.Calls.{Call, post, lift, tip, ask, tip_on, meaning}
+use Rattle.book.specs.Scale.{lift_checks, tip_checks, lift_motion, tip_motion}
+use Rattle.book.specs.Calls.{Call, post, lift, tip, set_rule, ask, tip_on, meaning}
 use Rattle.book.specs.WeighBook.{WeighBook, of_weigh, weighed, weighing, weigh_number, weigh_step, listed}
 use Rattle.book.specs.Lists.{tips_in}
 use Rattle.book.proofs.Sound.{number, takes_law, taking_number, taking_own_is, after_count, held_after, post_number, lift_number, tip_number}
@@ -44,18 +44,18 @@ pub record Walks (places : ℕ) (b : Book) (w : WeighBook) (c : Call) : Type 0 w
   pub foretells : length b.pieces + (meaning c).counts ≤ places → (1 ≤ tips_in c → 1 ≤ places) → Foretells places b w c
 
 -- A motion moves both alike.
-motion_beside : (b : Book) (rule : ℕ) (m : Motion) (w : WeighBook) → Beside b w → Beside (book_after b rule m) (weighed w m)
-motion_beside b rule m w r = record {
+motion_beside : (b : Book) (m : Motion) (w : WeighBook) → Beside b w → Beside (book_after b m) (weighed w m)
+motion_beside b m w r = record {
   same_size = r.same_size;
-  weights = λ v. rw (← (r.weights v), ← (r.weights m.moves.source)) (held_after b rule m v);
-  births = λ o t. rw (← (r.births o t), ← (r.weights m.moves.source)) (handed_births m.moves b.pieces _ (takes_law b rule m).fair o t);
+  weights = λ v. rw (← (r.weights v), ← (r.weights m.moves.source)) (held_after b m v);
+  births = λ o t. rw (← (r.births o t), ← (r.weights m.moves.source)) (handed_births m.moves b.pieces _ (takes_law b m).fair o t);
   same_last = refl;
   same_count = ap (λ (n : ℕ). n + m.counts) r.same_count;
 }
 
 -- where the table has a place, the number of what takes weight from a vessel is that of its own checks
 free_number : (places : ℕ) (b : Book) (m : Motion) (cs : List Check) (ok : T (named cs)) → length b.pieces + 1 ≤ places → taking_number places b m cs ok ≡ first cs
-free_number places b m cs ok h = grind (arith, nat_tests, taking_own_is places b m cs ok, after_count b b.rule m)
+free_number places b m cs ok h = grind (arith, nat_tests, taking_own_is places b m cs ok, after_count b m)
 
 -- the weigh book has the same number, and moves only where that is 0
 foretold : (places : ℕ) (b : Book) (w : WeighBook) (c : Call) → number places b c ≡ weigh_number w c → Foretells places b w c
@@ -67,16 +67,20 @@ walks places b w (ask q room) r = record {
   accepts = λ e. record { weighs = refl; beside = r };
   foretells = λ h k. record { same = λ ns. refl; stays = λ n e. refl };
 }
+walks places b w (set_rule s) r = record {
+  accepts = λ e. record { weighs = refl; beside = record { same_size = r.same_size; weights = r.weights; births = r.births; same_last = r.same_last; same_count = r.same_count } };
+  foretells = λ h k. record { same = λ ns. refl; stays = λ n e. refl };
+}
 walks places b w (post x) r =
     let s = ap (λ (g : Standing). first (transfer_checks g x)) (standing b w r) in
     record {
-      accepts = λ e. record { weighs = sym s ∙ (post_number places b x e).0; beside = motion_beside b b.rule (motion_of x) w r };
+      accepts = λ e. record { weighs = sym s ∙ (post_number places b x e).0; beside = motion_beside b (motion_of x) w r };
       foretells = λ h k. foretold places b w (post x) (free_number places b (motion_of x) (transfer_checks (of_book b) x) tt h ∙ s);
     }
 walks places b w (lift x) r =
     let s = ap (λ (g : Standing). first (lift_checks the_scale g x)) (standing b w r) in
     record {
-      accepts = λ e. record { weighs = sym s ∙ (lift_number places b x e).0; beside = motion_beside b b.rule (lift_motion the_scale x) w r };
+      accepts = λ e. record { weighs = sym s ∙ (lift_number places b x e).0; beside = motion_beside b (lift_motion the_scale x) w r };
       foretells = λ h k. foretold places b w (lift x) (free_number places b (lift_motion the_scale x) (lift_checks the_scale (of_book b) x) tt h ∙ s);
     }
 walks places b w (tip y) r =
@@ -84,7 +88,7 @@ walks places b w (tip y) r =
     record {
       accepts = λ e. record {
         weighs = sym s ∙ tip_number places b y e;
-        beside = subst (λ (n : ℕ). Beside (book_after b as_they_lie (tip_on the_scale b y)) (weighed w (tip_motion the_scale n y))) (r.weights the_scale) (motion_beside b as_they_lie (tip_on the_scale b y) w r);
+        beside = subst (λ (n : ℕ). Beside (book_after b (tip_on the_scale b y)) (weighed w (tip_motion the_scale n y))) (r.weights the_scale) (motion_beside b (tip_on the_scale b y) w r);
       };
       foretells = λ h k. foretold places b w (tip y) (grind (arith, nat_tests, k, s));
     }

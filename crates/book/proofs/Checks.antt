@@ -1,4 +1,4 @@
--- The checks of transfer, lift and tip: what it tells of each that none applies, that none applies where that holds, and what decides of a transfer once
+-- The checks of transfer, lift, tip and the setting of a rule: what it tells of each that none applies, that none applies where that holds, and what decides of a transfer once
 -- 5 to 8 do not.
 -- Assumes nothing.
 use Rattle.std.proofs.Common.{◌≡◌, ◌≢◌, [], ◌∷◌, ℕ, ◌+◌, ◌≤◌, ◌<◌, ltb, eqb, arith}
@@ -7,9 +7,12 @@ use Rattle.refusal.specs.Numbers.{TOP, ◌if◌, first}
 use Rattle.book.specs.declared.Transfer.{Transfer}
 use Rattle.book.specs.declared.Lift.{Lift}
 use Rattle.book.specs.declared.Tip.{Tip}
+use Rattle.book.specs.declared.Setting.{Setting}
+use Rattle.book.specs.Head.{last_rule}
 use Rattle.book.specs.Motion.{Standing}
 use Rattle.book.specs.Transfer.{transfer_checks}
 use Rattle.book.specs.Scale.{lift_checks, tip_checks}
+use Rattle.book.specs.Setting.{setting_checks}
 
 pub record Fit (g : Standing) (x : Transfer) : Type 0 where
   pub source_in : x.source < g.vessels
@@ -48,6 +51,15 @@ pub record TipFit (scale : ℕ) (g : Standing) (y : Tip) : Type 0 where
 pub tip_fit : (scale : ℕ) (g : Standing) (y : Tip) → first (tip_checks scale g y) ≡ 0 → TipFit scale g y
 unfolding tip_checks
 tip_fit scale g y e = grind (arith, nat_tests)
+
+-- the setting of a rule
+pub record SettingFit (size : ℕ) (s : Setting) : Type 0 where
+  pub vessel_in : s.vessel < size
+  pub rule_known : s.rule ≤ last_rule
+
+pub setting_fit : (size : ℕ) (s : Setting) → first (setting_checks size s) ≡ 0 → SettingFit size s
+unfolding setting_checks
+setting_fit size s e = grind (arith, nat_tests)
 
 -- and the other way round: where all of that holds, none applies
 pub lift_passes : (scale : ℕ) (g : Standing) (x : Lift) → LiftFit scale g x → first (lift_checks scale g x) ≡ 0

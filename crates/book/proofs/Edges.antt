@@ -9,12 +9,13 @@ use Rattle.refusal.specs.Numbers.{TOP, first}
 use Rattle.book.specs.declared.Head.{Head}
 use Rattle.book.specs.declared.Report.{Report}
 use Rattle.book.specs.declared.Report.TheVariants.{Held, Spread, Whole}
-use Rattle.book.specs.Head.{most_vessels, the_scale, tab, balances_of, every, same, adds_up, empty_head, opening}
+use Rattle.book.specs.Head.{most_vessels, the_scale, tab, balances_of, every, same, adds_up, empty_head, opening, rules_fit, all_zero, given_rules}
 use Rattle.book.specs.Motion.{Standing}
 use Rattle.book.specs.Transfer.{transfer_of, transfer_checks}
 use Rattle.book.specs.Scale.{lift_of, tip_of, lift_checks, tip_checks}
+use Rattle.book.specs.Setting.{setting_of, setting_checks}
 use Rattle.book.specs.Reports.{report_checks}
-use Rattle.book.specs.Calls.{post, lift, tip, ask}
+use Rattle.book.specs.Calls.{post, lift, tip, set_rule, ask}
 use Rattle.book.specs.Memory.{book_checks, number_of}
 use Rattle.book.specs.Lists.{tips}
 
@@ -26,10 +27,18 @@ pub record Edge : Type 0 where
 -- "book off", 4, or 0, of a head with these numbers and balances and this weight on the scale, and a table
 abbrev loaded : ℕ → ℕ → ℕ → ℕ → ℕ → List ℕ → ℕ → List ℕ → ℕ
 loaded rule vessels pieces last accepted balances scale t =
-    first (book_checks (record { rule = rule; vessels = vessels; pieces = pieces; last = last; accepted = accepted; balances = balances ++ replicate (most_vessels - length balances) 0; scale = scale }) t)
+    first (book_checks (record { rule = rule; vessels = vessels; pieces = pieces; last = last; accepted = accepted; balances = balances ++ replicate (most_vessels - length balances) 0; scale = scale; rules = given_rules rule vessels }) t)
 
 abbrev book : ℕ → ℕ → ℕ → ℕ → ℕ → List ℕ → List ℕ → ℕ
 book rule vessels pieces last accepted balances t = loaded rule vessels pieces last accepted balances 0 t
+
+-- the same of an empty book whose vessels have these rules
+abbrev ruled : ℕ → List ℕ → ℕ
+ruled vessels rules = first (book_checks (record { rule = 0; vessels = vessels; pieces = 0; last = 0; accepted = 0; balances = replicate most_vessels 0; scale = 0; rules = rules }) (9 ∷ 9 ∷ 9 ∷ 9 ∷ []))
+
+-- the number of a setting on three vessels
+abbrev given : ℕ → ℕ → ℕ
+given v rule = first (setting_checks 3 (setting_of v rule))
 
 -- three vessels that hold 5 each, so much on the scale, the last minute 7 and so many accepted
 abbrev stand : ℕ → ℕ → Standing
@@ -106,6 +115,23 @@ edges =
     ∷ book 3 2 1 5 1 (0 ∷ 8 ∷ []) (1 ∷ 0 ∷ 5 ∷ 7 ∷ []) gives 4
     ∷ book 3 2 2 5 2 [] (1 ∷ 0 ∷ 5 ∷ TOP ∷ 1 ∷ 0 ∷ 5 ∷ 1 ∷ []) gives 4
     ∷ book 3 2 1 5 1 (0 ∷ 7 ∷ 1 ∷ []) (1 ∷ 0 ∷ 5 ∷ 7 ∷ []) gives 4
+    -- a vessel's rule, and one from V on
+    ∷ ruled 3 (0 ∷ 1 ∷ 3 ∷ replicate 61 0) gives 0
+    ∷ ruled 3 (4 ∷ 0 ∷ 0 ∷ replicate 61 0) gives 4
+    ∷ ruled 3 (0 ∷ 0 ∷ 4 ∷ replicate 61 0) gives 4
+    ∷ ruled 3 (0 ∷ TOP ∷ 0 ∷ replicate 61 0) gives 4
+    ∷ ruled 3 (0 ∷ 0 ∷ 0 ∷ 1 ∷ replicate 60 0) gives 4
+    ∷ ruled 3 (replicate 63 0 ++ (1 ∷ [])) gives 4
+    ∷ ruled 64 (replicate 64 3) gives 0
+    ∷ ruled 64 (replicate 63 0 ++ (4 ∷ [])) gives 4
+    -- checks 5 and 2 of a setting, and their order
+    ∷ given 2 3 gives 0
+    ∷ given 0 4 gives 2
+    ∷ given 3 0 gives 5
+    ∷ given 3 4 gives 5
+    ∷ given 64 0 gives 5
+    ∷ given TOP TOP gives 5
+    ∷ given 0 TOP gives 2
     -- checks 5 to 10 and 21 of a transfer, and their order
     ∷ move 0 2 1 7 1 0 gives 0
     ∷ move 0 3 1 7 1 0 gives 5
@@ -189,16 +215,16 @@ edges =
     ∷ report Whole 8 gives 13
     ∷ report Whole 9 gives 0
     -- how many tips a list has
-    ∷ tips (post (transfer_of 0 1 0 1 0) ∷ lift (lift_of 0 0 1 0) ∷ tip (tip_of 1 0) ∷ ask Whole [] ∷ tip (tip_of 1 0) ∷ []) gives 2
+    ∷ tips (post (transfer_of 0 1 0 1 0) ∷ lift (lift_of 0 0 1 0) ∷ tip (tip_of 1 0) ∷ set_rule (setting_of 0 1) ∷ ask Whole [] ∷ tip (tip_of 1 0) ∷ []) gives 2
     ∷ []
 
 pub at_the_edge : map (λ e. e.found) edges ≡ map (λ e. e.wanted) edges
-unfolding edges opening book_checks adds_up every same balances_of tab places_of pieces_of transfer_checks lift_checks tip_checks report_checks
+unfolding edges opening book_checks adds_up rules_fit all_zero every same balances_of tab places_of pieces_of transfer_checks lift_checks tip_checks setting_checks report_checks
 at_the_edge = refl
 
 -- The number of a report on the fresh book of three vessels is that of its own checks.
 pub fresh_report : (q : Report) (room : List ℕ) → number_of (empty_head 0 3) (9 ∷ 9 ∷ 9 ∷ 9 ∷ []) (ask q room) ≡ report q (length room)
-unfolding number_of book_checks adds_up every same balances_of tab places_of pieces_of
+unfolding number_of book_checks adds_up rules_fit all_zero every same balances_of tab places_of pieces_of
 fresh_report q room = refl
 
 -- However far off the vessel of a held report or the origin of a spread one is, it is 5, and before all else.
@@ -206,9 +232,14 @@ pub no_vessel : (size v from to room : ℕ) → size ≤ v → (first (report_ch
 unfolding report_checks
 no_vessel size v from to room h = grind (arith, nat_tests)
 
+-- Opening gives every vessel of the book its rule, and no other.
+pub opened_rules : ((opening 3 2).head.rules ≡ 3 ∷ 3 ∷ replicate 62 0) × ((opening 2 64).head.rules ≡ replicate 64 2)
+unfolding opening
+opened_rules = (refl, refl)
+
 -- A refused opening gives a head of zeros.
 pub zeros : (rule size : ℕ) → ((opening rule size).number ≡ 0 → ⊥)
-    → (opening rule size).head ≡ record { rule = 0; vessels = 0; pieces = 0; last = 0; accepted = 0; balances = replicate 64 0; scale = 0 }
+    → (opening rule size).head ≡ record { rule = 0; vessels = 0; pieces = 0; last = 0; accepted = 0; balances = replicate 64 0; scale = 0; rules = replicate 64 0 }
 unfolding opening
 zeros rule size nz = grind arith
 

@@ -1,5 +1,5 @@
--- A BOOK WITH NOTHING ON THE SCALE is document 01's book: `bare_book` shows that it adds up where document 01's did, which knew no scale and let
--- a piece lie in a vessel only.
+-- A BOOK WITH NOTHING ON THE SCALE, whose rules were never set, is document 01's book: `bare_book` shows that it adds up where document 01's did, which
+-- knew no scale, let a piece lie in a vessel only, and had no rules of vessels.
 -- Assumes nothing.
 use Rattle.std.proofs.Common.{◌≡◌, refl, Bool, true, ◌&&◌, List, [], ◌∷◌, ℕ, ◌≤◌, ◌<◌, arith, eqb}
 use Rattle.std.proofs.lemmas.Bool.Decides.{nat_tests}
@@ -7,8 +7,9 @@ use Rattle.table.specs.declared.Piece.{Piece}
 use Rattle.table.specs.Pieces.{held, All, done, also}
 use Rattle.table.specs.Table.{pieces_of}
 use Rattle.book.specs.declared.Head.{Head}
-use Rattle.book.specs.Head.{most_vessels, the_scale, balances_of, all_of, fits, every, same, adds_up}
+use Rattle.book.specs.Head.{most_vessels, the_scale, balances_of, all_of, fits, every, same, adds_up, given_rules}
 use Rattle.book.specs.Former.{former_fits, former_tests}
+use Rattle.book.proofs.RuleLaws.{given_fit}
 use Rattle.book.proofs.HeadLaws.{all_sound, in_vessels}
 
 module _ (size last : ℕ) where
@@ -24,9 +25,9 @@ module _ (size last : ℕ) where
   former_bare small [] e = (refl, refl)
   former_bare small (p ∷ ps) e = grind (arith, nat_tests, former_bare small ps)
 
-pub bare_book : (h : Head) (t : List ℕ) → h.scale ≡ 0 → adds_up h t ≡ all_of (former_tests h t)
+pub bare_book : (h : Head) (t : List ℕ) → h.scale ≡ 0 → h.rules ≡ given_rules h.rule h.vessels → adds_up h t ≡ all_of (former_tests h t)
 unfolding adds_up
-bare_book h t z = grind (arith, nat_tests, alike)
+bare_book h t z unset = grind (arith, nat_tests, alike, given_fit h.rule h.vessels)
   where
     ps : List Piece
     ps = pieces_of h.pieces t

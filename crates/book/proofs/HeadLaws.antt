@@ -1,7 +1,7 @@
 -- Laws of the head: the tests by which a book adds up, what each says where it holds and that a sound piece and equal lists pass them; where pieces lie;
 -- and opening: what passes its checks, and its answer by its number.
 -- Assumes nothing.
-use Rattle.std.proofs.Common.{eqb, ◌≡◌, refl, true, List, [], ◌∷◌, ℕ, suc, ◌≤◌, ◌<◌, arith, length, get_or}
+use Rattle.std.proofs.Common.{eqb, ◌≡◌, refl, true, List, [], ◌∷◌, ℕ, zero, suc, ◌≤◌, ◌<◌, arith, length, get_or}
 use Rattle.std.proofs.lemmas.Bool.Decides.{nat_tests}
 use Rattle.std.proofs.lemmas.List.Folds.{list_all_at}
 use Rattle.table.specs.declared.Piece.{Piece}
@@ -11,7 +11,7 @@ use Rattle.taking.proofs.Sweeping.{none_held}
 use Rattle.refusal.specs.Numbers.{first}
 use Rattle.book.specs.declared.Head.{Head}
 use Rattle.book.specs.declared.Reply.{Reply}
-use Rattle.book.specs.Head.{last_rule, most_vessels, the_scale, fits, every, same, all_zero, empty_head, not_opened, open_checks, opening}
+use Rattle.book.specs.Head.{last_rule, most_vessels, the_scale, fits, every, same, all_zero, empty_head, not_opened, open_checks, opens, opening}
 use Rattle.book.proofs.HolderLaws.{holder_vessel}
 use Rattle.book.proofs.Sound.{SoundPiece}
 
@@ -80,3 +80,12 @@ module _ (rule size n : ℕ) (z : Reply) (e : n ≡ first (open_checks rule size
   pub open_accepted : n ≡ 0 → (h : Head) → h ≡ empty_head rule size → record { number = 0; head = h } ≡ opening rule size
   unfolding opening
   open_accepted q h eh = grind arith
+
+-- an opening that is accepted has passed its checks, and gives the fresh head
+pub opening_passed : (rule size : ℕ) → (opening rule size).number ≡ 0 → (first (open_checks rule size) ≡ 0) × ((opening rule size).head ≡ empty_head rule size)
+unfolding opening
+opening_passed rule size = go (first (open_checks rule size))
+  where
+    go : (n : ℕ) → (opens rule size n).number ≡ 0 → (n ≡ 0) × ((opens rule size n).head ≡ empty_head rule size)
+    go zero e = (refl, refl)
+    go (suc n) e = absurd (omega arith)

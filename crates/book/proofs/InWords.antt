@@ -3,7 +3,7 @@
 -- scale, in the order they lay, behind them. And a report: its numbers are written, and the
 -- numbers after these remain. What is refused gives zeros, the head as it was, and changes nothing.
 -- Assumes nothing.
-use Rattle.std.proofs.Common.{◌≡◌, refl, sym, ◌∙◌, List, ◌++◌, map, append-nil, ℕ, arith, length, take, drop, take_at, drop_at}
+use Rattle.std.proofs.Common.{◌≡◌, refl, sym, ap, ◌∙◌, ◌≢◌, List, ◌++◌, map, append-nil, ℕ, arith, length, take, drop, take_at, drop_at}
 use Rattle.std.proofs.lemmas.Bool.Decides.{nat_tests}
 use Rattle.table.specs.declared.Piece.{Piece}
 use Rattle.table.specs.Pieces.{hand_to}
@@ -18,18 +18,21 @@ use Rattle.book.specs.declared.Head.{Head}
 use Rattle.book.specs.declared.Transfer.{Transfer}
 use Rattle.book.specs.declared.Lift.{Lift}
 use Rattle.book.specs.declared.Tip.{Tip}
+use Rattle.book.specs.declared.Setting.{Setting}
 use Rattle.book.specs.declared.Motion.{Motion}
 use Rattle.book.specs.declared.Report.{Report}
-use Rattle.book.specs.Head.{the_scale, book_of}
+use Rattle.book.specs.Head.{the_scale, most_vessels, book_of, rule_at}
 use Rattle.book.specs.Motion.{of_book, takes}
 use Rattle.book.specs.Transfer.{transfer_checks, motion_of}
 use Rattle.book.specs.Scale.{lift_checks, lift_motion}
+use Rattle.book.specs.Setting.{ruled}
 use Rattle.book.specs.Reports.{report_row}
-use Rattle.book.specs.Calls.{Call, post, lift, tip, ask, Answer, tip_on, meaning}
+use Rattle.book.specs.Calls.{Call, post, lift, tip, set_rule, ask, Answer, tip_on, meaning}
 use Rattle.book.specs.Memory.{number_of, call_on}
-use Rattle.book.proofs.Checks.{Fit, LiftFit}
+use Rattle.book.proofs.RuleLaws.{set_at, set_others}
+use Rattle.book.proofs.Checks.{Fit, LiftFit, setting_fit}
 use Rattle.book.proofs.Memory.{call_number, refused_on, on_number, passed_book, book_passed}
-use Rattle.book.proofs.Known.{AddsUp, adds_up_told}
+use Rattle.book.proofs.Known.{AddsUp, adds_up_told, adds_head}
 
 abbrev pub moved_answer : Moved → Answer
 moved_answer r = record { whole = r.whole; split = r.split; born = r.missing }
@@ -53,9 +56,9 @@ module _ (h : Head) (t : List ℕ) where
   unfolding lift_checks
   fit_lift x e = grind (arith, nat_tests, passed_own (lift x) e)
 
-  -- what takes weight from a vessel, by the rule of the book
+  -- what takes weight from a vessel, by the rule of its source
   abbrev moved : Motion → Moved
-  moved m = in_table h.rule m.moves ps
+  moved m = in_table (rule_at h.rules m.moves.source) m.moves ps
 
   abbrev InWords : Call → Motion → Type 0
   InWords c m = ((call_on h t c).table ≡ lay (moved m).pieces t) × ((call_on h t c).answer ≡ moved_answer (moved m))
@@ -65,14 +68,14 @@ module _ (h : Head) (t : List ℕ) where
   in_words x z =
       let e = sym (call_number h t (post x)) ∙ z in
       let apart = (post_fit x e).apart in
-      rw (e, taken_in_table h.rule (motion_of x).moves ps (λ q. apart (sym q))) (refl, refl)
+      rw (e, taken_in_table _ (motion_of x).moves ps (λ q. apart (sym q))) (refl, refl)
 
   pub lift_in_words : (x : Lift) → (call_on h t (lift x)).number ≡ 0 → InWords (lift x) (lift_motion the_scale x)
   unfolding call_on takes
   lift_in_words x z =
       let e = sym (call_number h t (lift x)) ∙ z in
       let k = (accepted_book (lift x) e).vessels_fit in
-      rw (e, taken_in_table h.rule (lift_motion the_scale x).moves ps (λ q. omega (arith, (fit_lift x e).source_in))) (refl, refl)
+      rw (e, taken_in_table _ (lift_motion the_scale x).moves ps (λ q. omega (arith, (fit_lift x e).source_in))) (refl, refl)
 
   pub tip_in_words : (y : Tip) → (call_on h t (tip y)).number ≡ 0
       → (call_on h t (tip y)).table ≡ lay (elsewhere the_scale ps ++ map (hand_to y.destination) (held_by the_scale ps)) t
@@ -94,3 +97,24 @@ module _ (h : Head) (t : List ℕ) where
 
   pub report_refused : (q : Report) (room : List ℕ) → ((call_on h t (ask q room)).number ≡ 0 → ⊥) → (call_on h t (ask q room)).room ≡ room
   report_refused q room nz = rw (refused_on h t (ask q room) _ (sym (call_number h t (ask q room))) nz)
+
+  -- a setting, refused or accepted, writes nothing
+  pub set_writes_nothing : (s : Setting) → (call_on h t (set_rule s)).table ≡ t
+  unfolding call_on
+  set_writes_nothing s = grind arith
+
+  -- "A new call sets [a vessel's rule] at any moment for later picks": of all numbers of head and table just that one changes, and the vessel is picked
+  -- from by it, any other as before.
+  pub ruled_is : (s : Setting) → number_of h t (set_rule s) ≡ 0 → (call_on h t (set_rule s)).head ≡ ruled h s
+  unfolding call_on ruled
+  ruled_is s e = rw e (ap (λ (k : Head). ruled k s) (sym (adds_head h t (accepted_book (set_rule s) e))))
+
+  pub set_in_words : (s : Setting) → (call_on h t (set_rule s)).number ≡ 0 → length h.rules ≡ most_vessels
+      → let o = call_on h t (set_rule s) in
+      (o.head ≡ ruled h s) × (o.table ≡ t) × (rule_at o.head.rules s.vessel ≡ s.rule) × ((v : ℕ) → v ≢ s.vessel → rule_at o.head.rules v ≡ rule_at h.rules v)
+  unfolding ruled
+  set_in_words s z long =
+      let e = sym (call_number h t (set_rule s)) ∙ z in
+      let few = (accepted_book (set_rule s) e).vessels_fit in
+      let f = setting_fit h.vessels s (passed_own (set_rule s) e) in
+      rw (ruled_is s e) (refl, set_writes_nothing s, set_at s.vessel s.rule h.rules (omega (arith, f.vessel_in)) long, λ v u. set_others s.vessel s.rule v h.rules u)

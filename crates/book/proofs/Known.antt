@@ -10,7 +10,7 @@ use Rattle.table.proofs.Pieces.{all_map}
 use Rattle.table.proofs.Table.{length_pieces, formed, places_fit}
 use Rattle.refusal.specs.Numbers.{first}
 use Rattle.book.specs.declared.Head.{Head}
-use Rattle.book.specs.Head.{last_rule, most_vessels, the_scale, holdings, Sized, balance_at, balances_of, head_of, book_of, adds_up}
+use Rattle.book.specs.Head.{last_rule, most_vessels, the_scale, holdings, Sized, balance_at, rules_fit, balances_of, head_of, book_of, adds_up}
 use Rattle.book.specs.Motion.{of_book, of_head}
 use Rattle.book.specs.Memory.{book_checks}
 use Rattle.book.proofs.BalanceLaws.{Holders, Matches, balances_match, balance_held}
@@ -25,6 +25,7 @@ pub record AddsUp (h : Head) (t : List ℕ) : Type 0 where
   pub vessels_fit : h.vessels ≤ most_vessels
   pub few : h.pieces ≤ places_of t
   pub counted : h.pieces ≤ h.accepted
+  pub rules_known : rules_fit h.vessels h.rules ≡ true
   pub sound : All (SoundPiece h.vessels h.last) (pieces_of h.pieces t)
   pub balances_are : h.balances ≡ balances_of h.vessels (pieces_of h.pieces t)
   pub scale_is : h.scale ≡ held the_scale (pieces_of h.pieces t)

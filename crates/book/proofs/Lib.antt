@@ -1,5 +1,6 @@
 pub mod HolderLaws
 pub mod BalanceLaws
+pub mod RuleLaws
 pub mod Checks
 pub mod Sound
 pub mod Beside
@@ -8,14 +9,17 @@ pub mod Memory
 pub mod Known
 pub mod After
 pub mod Lists
+pub mod Alike
+pub mod OneRule
 pub mod Former
 pub mod Cases
 pub mod Marked
 pub mod Ages
 pub mod InWords
-pub mod Divided
+pub mod SecondScale
 pub mod Succession
 pub mod Scale
 pub mod Load
+pub mod Mixed
 pub mod Edges
 pub mod ReportLaws

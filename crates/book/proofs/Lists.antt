@@ -1,11 +1,10 @@
 -- Demand 3: one claim about a whole list of calls, on the head of an accepted opening and a table of any length and content.
 -- By induction over the list, with the book that head and table hold and the weigh book beside it.
 -- Assumes nothing.
-use Rattle.std.proofs.Common.{◌≡◌, refl, sym, ap, ◌∙◌, List, [], ◌∷◌, ℕ, zero, suc, ◌+◌, ◌≤◌, arith, length}
+use Rattle.std.proofs.Common.{◌≡◌, refl, ap, ◌∙◌, List, [], ◌∷◌, ℕ, zero, suc, ◌+◌, ◌≤◌, arith, length}
 use Rattle.table.specs.Table.{places_of}
-use Rattle.refusal.specs.Numbers.{first}
 use Rattle.book.specs.declared.Head.{Head}
-use Rattle.book.specs.Head.{Book, opened, open_checks, opens, opening, empty_head}
+use Rattle.book.specs.Head.{Book, opened, opening}
 use Rattle.book.specs.Calls.{Call, meaning}
 use Rattle.book.specs.Memory.{Outcome, call_on}
 use Rattle.book.specs.WeighBook.{WeighBook, weighing, blank, feed, forecast}
@@ -13,6 +12,7 @@ use Rattle.book.specs.Lists.{Journal, calls_on, answered, follow, transfers, tip
 use Rattle.book.proofs.Sound.{number, SoundBook, keeps}
 use Rattle.book.proofs.Beside.{Beside, walks}
 use Rattle.book.proofs.Memory.{On, InStep, back, adds, in_step}
+use Rattle.book.proofs.HeadLaws.{opening_passed}
 use Rattle.book.proofs.After.{fresh, fresh_on}
 
 -- What holds of the journal r of the calls cs, from the book b and the weigh book w on.
@@ -25,6 +25,8 @@ record Follows (places : ℕ) (b : Book) (w : WeighBook) (cs : List Call) (r : J
   count : length final.pieces + evens r.log + b.accepted ≡ length b.pieces + final.accepted
   tally : final.accepted ≡ transfers (answered r.log) + b.accepted
   forecasts : length b.pieces + transfers cs ≤ places → (1 ≤ tips cs → 1 ≤ places) → numbers r.log ≡ forecast w cs
+  -- and so what is refused does not move the weigh book either
+  fed : length b.pieces + transfers cs ≤ places → (1 ≤ tips cs → 1 ≤ places) → feed w (answered r.log) ≡ feed w cs
 
 module _ (places : ℕ) where
   abbrev Holds : List Call → Type 0
@@ -32,7 +34,7 @@ module _ (places : ℕ) where
 
   follows : (cs : List Call) → Holds cs
   unfolding calls_on follow feed forecast
-  follows [] h t b w on o r = record { final = b; on = on; sound = o; in_turn = refl; beside = r; count = omega arith; tally = omega arith; forecasts = λ h k. refl }
+  follows [] h t b w on o r = record { final = b; on = on; sound = o; in_turn = refl; beside = r; count = omega arith; tally = omega arith; forecasts = λ h k. refl; fed = λ h k. refl }
   follows (c ∷ cs) h t b w on o r = go (number places b c) refl (in_step places h t b on o c) (follows cs)
     where
       u : Outcome
@@ -52,6 +54,7 @@ module _ (places : ℕ) where
             count = rw s.even_is (omega (arith, i.count, k.count, k.tally));
             tally = rw s.number_is (omega (arith, i.tally, k.tally));
             forecasts = λ h q. rw (s.number_is, a.weighs, i.forecasts (omega (arith, k.count)) (λ u. q (omega arith)));
+            fed = λ h q. rw (s.number_is, feed, a.weighs) (i.fed (omega (arith, k.count)) (λ u. q (omega arith)));
           }
       go (suc n) e s next =
           let i = next u.head u.table b w s.holds o r in
@@ -66,37 +69,40 @@ module _ (places : ℕ) where
             forecasts = λ h q.
                 let f = (walks places b w c r).foretells (omega arith) (λ u. q (omega arith)) in
                 rw (s.number_is, f.stays n e, ← e, f.same (numbers (calls_on u.head u.table cs).log), i.forecasts (omega arith) (λ u. q (omega arith)));
+            fed = λ h q.
+                let f = (walks places b w c r).foretells (omega arith) (λ u. q (omega arith)) in
+                rw (s.number_is, f.stays n e) (i.fed (omega arith) (λ u. q (omega arith)));
           }
 
 -- the theorem, from the fresh head
-pub opened_demand : (rule size : ℕ) → first (open_checks rule size) ≡ 0 → (t : List ℕ) (cs : List Call) → Demand3 rule size t cs (calls_on (empty_head rule size) t cs)
-unfolding places_of
-opened_demand rule size z t cs =
-    let b = opened rule size in
-    let f = follows (places_of t) cs (empty_head rule size) t b (blank size) (fresh_on rule size t) (fresh (places_of t) rule size z)
-    (record { same_size = refl; weights = λ v. refl; births = λ o t. refl; same_last = refl; same_count = refl }) in
-    let k = back (places_of t) _ _ _ f.on f.sound in
-    record {
-      in_turn = k ∙ f.in_turn;
-      vessel_sums = λ v. rw (ap (λ b. b.pieces) k) (f.beside.weights v);
-      birth_sums = λ o m. rw (ap (λ b. b.pieces) k) (f.beside.births o m);
-      even_count = rw f.on.head_is (omega (arith, f.count));
-      accepted_count = rw f.on.head_is (omega (arith, f.tally));
-      forecasts = λ h q. f.forecasts (omega arith) (λ u. let k : 4 ≤ length t = q u in omega arith);
-      book_adds_up = adds (places_of t) _ _ _ f.on f.sound;
-    }
+module _ (rule size : ℕ) (e : (opening rule size).number ≡ 0) (t : List ℕ) (cs : List Call) where
+  abbrev journal : Journal
+  journal = calls_on (opening rule size).head t cs
 
--- DEMAND 3: for every opening that is accepted, every table and every list of calls.
-pub demand_3 : (rule size : ℕ) → (opening rule size).number ≡ 0 → (t : List ℕ) (cs : List Call) → Demand3 rule size t cs (calls_on (opening rule size).head t cs)
-unfolding opening
-demand_3 rule size e t cs = go (first (open_checks rule size)) refl e
-  where
-    go : (n : ℕ) → first (open_checks rule size) ≡ n → (opens rule size n).number ≡ 0 → Demand3 rule size t cs (calls_on (opens rule size n).head t cs)
-    go zero z u = opened_demand rule size z t cs
-    go (suc n) z u = absurd (omega arith)
+  followed : Follows (places_of t) (opened rule size) (blank size) cs journal
+  followed =
+      let o = opening_passed rule size e in
+      let fresh_on_it : On (places_of t) (opening rule size).head t (opened rule size) = rw o.1 (fresh_on rule size t) in
+      follows (places_of t) cs (opening rule size).head t (opened rule size) (blank size) fresh_on_it (fresh (places_of t) rule size o.0)
+      (record { same_size = refl; weights = λ v. refl; births = λ o t. refl; same_last = refl; same_count = refl })
 
--- "the same under all four rules": where there are places enough, two books of any rules give a list's transfers the same numbers.
-pub rules_alike : (one other size : ℕ) → (opening one size).number ≡ 0 → (opening other size).number ≡ 0 → (t u : List ℕ) (cs : List Call) → transfers cs ≤ places_of t → transfers cs ≤ places_of u
-    → (1 ≤ tips cs → (4 ≤ length t) × (4 ≤ length u))
-    → numbers (calls_on (opening one size).head t cs).log ≡ numbers (calls_on (opening other size).head u cs).log
-rules_alike one other size e f t u cs h k q = (demand_3 one size e t cs).forecasts h (λ y. (q y).0) ∙ sym ((demand_3 other size f u cs).forecasts k (λ y. (q y).1))
+  -- DEMAND 3: for every opening that is accepted, every table and every list of calls.
+  pub demand_3 : Demand3 rule size t cs (calls_on (opening rule size).head t cs)
+  unfolding places_of
+  demand_3 =
+      let f = followed in
+      let k = back (places_of t) _ _ _ f.on f.sound in
+      record {
+        in_turn = k ∙ f.in_turn;
+        vessel_sums = λ v. rw (ap (λ b. b.pieces) k) (f.beside.weights v);
+        birth_sums = λ o m. rw (ap (λ b. b.pieces) k) (f.beside.births o m);
+        even_count = rw f.on.head_is (omega (arith, f.count));
+        accepted_count = rw f.on.head_is (omega (arith, f.tally));
+        forecasts = λ h q. f.forecasts (omega arith) (λ u. let k : 4 ≤ length t = q u in omega arith);
+        book_adds_up = adds (places_of t) _ _ _ f.on f.sound;
+      }
+
+  -- Where there are places enough, the weigh book fed every call, the refused ones too, is what it is fed the accepted ones.
+  pub fed_all : transfers cs ≤ places_of t → (1 ≤ tips cs → 4 ≤ length t) → feed (blank size) (answered journal.log) ≡ feed (blank size) cs
+  unfolding places_of
+  fed_all h q = followed.fed (omega arith) (λ u. let k : 4 ≤ length t = q u in omega arith)

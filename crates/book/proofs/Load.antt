@@ -21,12 +21,12 @@ use Rattle.book.specs.declared.Lift.{Lift}
 use Rattle.book.specs.declared.Tip.{Tip}
 use Rattle.book.specs.declared.Report.{Report}
 use Rattle.book.specs.declared.Report.TheVariants.{Held, Spread, Whole}
-use Rattle.book.specs.Head.{Book, the_scale, book_of, tab, balances_of, every, same, adds_up, opening}
+use Rattle.book.specs.Head.{Book, the_scale, book_of, tab, balances_of, every, same, adds_up, opening, rules_fit, all_zero, given_rules, rule_at}
 use Rattle.book.specs.Motion.{of_book, takes}
 use Rattle.book.specs.Transfer.{transfer_of, transfer_checks, motion_of}
 use Rattle.book.specs.Scale.{lift_of, tip_of, lift_checks, tip_checks}
 use Rattle.book.specs.Reports.{rows, report_row, report_checks, onto}
-use Rattle.book.specs.Calls.{Call, post, lift, tip, ask, meaning}
+use Rattle.book.specs.Calls.{Call, post, lift, tip, set_rule, ask, meaning}
 use Rattle.book.specs.Memory.{Outcome, number_of, book_checks, call_on}
 use Rattle.book.specs.Lists.{calls_on, tips_in, tips}
 use Rattle.book.proofs.Sound.{takes_law}
@@ -68,10 +68,11 @@ module _ (h : Head) (t : List ℕ) where
         accepted (post x) u e =
             let f = post_fit h t x e in
             let few = (accepted_book h t (post x) e).vessels_fit in
-            handed_others (motion_of x).moves _ _ (takes_law (book_of h t) h.rule (motion_of x)).fair the_scale
+            handed_others (motion_of x).moves _ _ (takes_law (book_of h t) (motion_of x)).fair the_scale
             (λ s. omega (arith, f.source_in)) (λ s. omega (arith, f.destination_in))
         accepted (lift x) u e = absurd (loaded ((accepted_book h t (lift x) e).scale_is ∙ (fit_lift h t x e).bare))
         accepted (tip y) u e = absurd (omega arith)
+        accepted (set_rule s) u e = refl
         accepted (ask q room) u e = refl
 
         go : (n : ℕ) → number_of h t c ≡ n → load (call_on h t c).head (call_on h t c).table ≡ load h t
@@ -83,6 +84,7 @@ module _ (h : Head) (t : List ℕ) where
     scale_stays (post x) u = post_scale h t x
     scale_stays (lift x) u = grind (arith, fit_lift h t x, accepted_book h t (lift x))
     scale_stays (tip y) u = absurd (omega arith)
+    scale_stays (set_rule s) u = grind (arith, accepted_book h t (set_rule s))
     scale_stays (ask q room) u = grind (arith, accepted_book h t (ask q room))
 
 -- WAITING: while no tip is made, what is on the scale stays as it is, in its order.
@@ -106,16 +108,16 @@ tip_comes_last cs h t y loaded u e =
 
 -- the book without the pieces on the scale
 abbrev pub unloaded : Book → Book
-unloaded b = record { rule = b.rule; vessels = b.vessels; last = b.last; accepted = b.accepted; pieces = elsewhere the_scale b.pieces }
+unloaded b = record { rule = b.rule; vessels = b.vessels; last = b.last; accepted = b.accepted; rules = b.rules; pieces = elsewhere the_scale b.pieces }
 
 module _ (b : Book) (x : Transfer) (source : the_scale ≢ x.source) (destination : the_scale ≢ x.destination) where
   apart_next : (meaning (post x)).next (unloaded b) ≡ unloaded ((meaning (post x)).next b)
   unfolding takes
-  apart_next = λ i. record { rule = b.rule; vessels = b.vessels; last = x.minute; accepted = b.accepted + 1; pieces = apart_handed the_scale b.rule (motion_of x).moves b.pieces source destination i }
+  apart_next = λ i. record { rule = b.rule; vessels = b.vessels; last = x.minute; accepted = b.accepted + 1; rules = b.rules; pieces = apart_handed the_scale (rule_at b.rules x.source) (motion_of x).moves b.pieces source destination i }
 
   apart_answer : (meaning (post x)).answer b ≡ (meaning (post x)).answer (unloaded b)
   unfolding takes
-  apart_answer = rw (apart_taken the_scale b.rule (motion_of x).moves b.pieces source) refl
+  apart_answer = rw (apart_taken the_scale (rule_at b.rules x.source) (motion_of x).moves b.pieces source) refl
 
   apart_checks : transfer_checks (of_book (unloaded b)) x ≡ transfer_checks (of_book b) x
   unfolding transfer_checks
@@ -152,7 +154,7 @@ report_unloaded h t q room z =
 
 -- a book of three vessels under a rule: two pieces on the scale, each with a piece of another behind it
 abbrev laden : ℕ → Head
-laden rule = record { rule = rule; vessels = 3; pieces = 4; last = 5; accepted = 9; balances = 3 ∷ 5 ∷ replicate 62 0; scale = 6 }
+laden rule = record { rule = rule; vessels = 3; pieces = 4; last = 5; accepted = 9; balances = 3 ∷ 5 ∷ replicate 62 0; scale = 6; rules = given_rules rule 3 }
 
 abbrev lying : List ℕ
 lying = 64 ∷ 0 ∷ 5 ∷ 2 ∷ 1 ∷ 2 ∷ 1 ∷ 5 ∷ 64 ∷ 2 ∷ 3 ∷ 4 ∷ 0 ∷ 1 ∷ 2 ∷ 3 ∷ 7 ∷ 7 ∷ []
@@ -165,7 +167,7 @@ abbrev behind : List ℕ
 behind = 1 ∷ 2 ∷ 1 ∷ 5 ∷ 0 ∷ 1 ∷ 2 ∷ 3 ∷ 1 ∷ 0 ∷ 5 ∷ 2 ∷ 1 ∷ 2 ∷ 3 ∷ 4 ∷ 7 ∷ 7 ∷ 0 ∷ 9 ∷ 9 ∷ 3 ∷ 11 ∷ []
 
 pub tip_behind : map tipped_into_1 (0 ∷ 1 ∷ 2 ∷ 3 ∷ []) ≡ behind ∷ behind ∷ behind ∷ behind ∷ []
-unfolding call_on number_of book_checks adds_up every same balances_of tab places_of pieces_of flat tip_checks takes taken take_up_to precedes
+unfolding call_on number_of book_checks adds_up rules_fit all_zero every same balances_of tab places_of pieces_of flat tip_checks takes taken take_up_to precedes
 tip_behind = refl
 
 -- The same book's reports, and the number behind them.
@@ -177,11 +179,11 @@ vessels_only = (0 ∷ 3 ∷ 0 ∷ replicate 7 7) ∷ (0 ∷ 5 ∷ 0 ∷ replicat
 
 -- and of 64 vessels, where the scale's number would be behind the row
 abbrev all_vessels : Head
-all_vessels = record { rule = 0; vessels = 64; pieces = 1; last = 5; accepted = 1; balances = replicate 64 0; scale = 7 }
+all_vessels = record { rule = 0; vessels = 64; pieces = 1; last = 5; accepted = 1; balances = replicate 64 0; scale = 7; rules = replicate 64 0 }
 
 pub left_out : (map reported (Held 0 ∷ Spread 2 0 9 ∷ Whole ∷ []) ≡ vessels_only)
     × ((call_on all_vessels (64 ∷ 63 ∷ 5 ∷ 7 ∷ []) (ask (Spread 63 0 9) (replicate 65 7))).room ≡ replicate 64 0 ++ (7 ∷ []))
-unfolding call_on number_of book_checks adds_up every same balances_of tab places_of pieces_of flat report_checks rows
+unfolding call_on number_of book_checks adds_up rules_fit all_zero every same balances_of tab places_of pieces_of flat report_checks rows
 left_out = (refl, refl)
 
 -- What waits on the scale: part of two lots of vessel 0, which gives and receives meanwhile, gets it back behind what it received, and gives by that.
@@ -212,5 +214,5 @@ cases =
     ∷ []
 
 pub waited : map seen cases ≡ map (λ c. c.wanted) cases
-unfolding cases calls_on call_on number_of book_checks adds_up every same balances_of tab places_of pieces_of flat opening transfer_checks lift_checks tip_checks takes taken take_up_to precedes report_checks rows
+unfolding cases calls_on call_on number_of book_checks adds_up rules_fit all_zero every same balances_of tab places_of pieces_of flat opening transfer_checks lift_checks tip_checks takes taken take_up_to precedes report_checks rows
 waited = refl

@@ -7,7 +7,7 @@ use Rattle.table.specs.Table.{pieces_of, flat, places_of}
 use Rattle.taking.specs.Selection.{precedes}
 use Rattle.taking.specs.Taking.{take_up_to, taken}
 use Rattle.book.specs.declared.Transfer.{Transfer}
-use Rattle.book.specs.Head.{Book, tab, balances_of, every, same, adds_up, opening}
+use Rattle.book.specs.Head.{Book, tab, balances_of, every, same, adds_up, opening, rules_fit, all_zero}
 use Rattle.book.specs.Motion.{takes}
 use Rattle.book.specs.Transfer.{transfer_checks, motion_of}
 use Rattle.book.specs.Calls.{post, meaning}
@@ -90,9 +90,9 @@ marked =
     ∷ []
 
 pub marked_cases : map (λ c. seen c.is) marked ≡ map (λ c. c.is.wanted) marked
-unfolding marked calls_on call_on number_of book_checks adds_up every same balances_of tab places_of pieces_of flat opening transfer_checks takes taken take_up_to precedes feed weigh_number
+unfolding marked calls_on call_on number_of book_checks adds_up rules_fit all_zero every same balances_of tab places_of pieces_of flat opening transfer_checks takes taken take_up_to precedes feed weigh_number
 marked_cases = refl
 
 -- K8: "q = balance of s, above 0, accepted: even under every rule", of every book.
 pub even_law : (b : Book) (x : Transfer) → x.weight ≡ held x.source b.pieces → (meaning (post x)).even b ≡ 1
-even_law b x e = rw (all_taken b b.rule (motion_of x) e)
+even_law b x e = rw (all_taken b (motion_of x) e)

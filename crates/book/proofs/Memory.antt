@@ -9,7 +9,8 @@ use Rattle.refusal.specs.Numbers.{first, if_zero}
 use Rattle.refusal.proofs.Numbers.{first_append}
 use Rattle.book.specs.declared.Head.{Head}
 use Rattle.book.specs.Head.{Book, balances_of, head_of, book_of, adds_up}
-use Rattle.book.specs.Calls.{Call, meaning, no_answer}
+use Rattle.book.specs.Calls.{Call, post, lift, tip, set_rule, ask, meaning, no_answer}
+use Rattle.book.specs.Lists.{sets_rule}
 use Rattle.book.specs.Memory.{Outcome, outcome, book_checks, number_of, call_on, transferred, replied}
 use Rattle.book.proofs.Sound.{number, SoundBook, Lies, keeps}
 use Rattle.book.proofs.HeadLaws.{same_refl, all_fit}
@@ -111,3 +112,12 @@ module _ (places : ℕ) (h : Head) (t : List ℕ) (b : Book) (on : On places h t
 pub rule_kept : (h : Head) (t : List ℕ) (c : Call) → ((call_on h t c).head.rule ≡ h.rule) × ((call_on h t c).head.vessels ≡ h.vessels)
 unfolding call_on
 rule_kept h t c = grind arith
+
+-- and only the setting of one alters the rules of the vessels
+pub rules_kept : (h : Head) (t : List ℕ) (c : Call) → sets_rule c ≡ false → (call_on h t c).head.rules ≡ h.rules
+unfolding call_on
+rules_kept h t (post x) u = grind arith
+rules_kept h t (lift x) u = grind arith
+rules_kept h t (tip y) u = grind arith
+rules_kept h t (set_rule s) u = cc
+rules_kept h t (ask q room) u = grind arith

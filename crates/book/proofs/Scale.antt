@@ -13,7 +13,7 @@ use Rattle.refusal.specs.Numbers.{first}
 use Rattle.book.specs.declared.Head.{Head}
 use Rattle.book.specs.declared.Transfer.{Transfer}
 use Rattle.book.specs.declared.Tip.{Tip}
-use Rattle.book.specs.Head.{the_scale, book_of, tab, balances_of, every, same, adds_up, opening}
+use Rattle.book.specs.Head.{the_scale, book_of, tab, balances_of, every, same, adds_up, opening, rules_fit, all_zero}
 use Rattle.book.specs.Motion.{takes}
 use Rattle.book.specs.Transfer.{transfer_of, transfer_checks, motion_of}
 use Rattle.book.specs.Scale.{lift_of, tip_of, lift_part, tip_part, lift_checks, tip_checks, tip_motion}
@@ -38,7 +38,7 @@ bare_refuses h t e u y =
 -- a transfer leaves the scale as it was
 pub post_scale : (h : Head) (t : List ℕ) (x : Transfer) → (call_on h t (post x)).head.scale ≡ h.scale
 unfolding call_on
-post_scale h t x = grind (arith, nat_tests, held_after (book_of h t) h.rule (motion_of x) the_scale, post_fit h t x, accepted_book h t (post x))
+post_scale h t x = grind (arith, nat_tests, held_after (book_of h t) (motion_of x) the_scale, post_fit h t x, accepted_book h t (post x))
 
 -- "a tip moves all its weight there to d, sets last and leaves accepted"
 pub record TipWeighed (w : WeighBook) (y : Tip) (w' : WeighBook) : Type 0 where
@@ -75,5 +75,5 @@ cases =
     ∷ []
 
 pub divided : map seen cases ≡ map (λ c. c.wanted) cases
-unfolding cases calls_on call_on number_of book_checks adds_up every same balances_of tab places_of pieces_of flat opening transfer_checks lift_checks tip_checks takes taken take_up_to precedes
+unfolding cases calls_on call_on number_of book_checks adds_up rules_fit all_zero every same balances_of tab places_of pieces_of flat opening transfer_checks lift_checks tip_checks takes taken take_up_to precedes
 divided = refl

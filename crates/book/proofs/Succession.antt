@@ -2,7 +2,7 @@
 -- table, the head and the answer (`same_outcome`). It is refused where one of the two would be, and with the number of its own list: where the
 -- lift is accepted, with that of the tip, or with 6 where it goes back to its source (`tip_decides`, `same_vessel`); where the lift is refused,
 -- with that of the lift, if nothing is amiss with the destination (`lift_decides`).
--- Divided.antt shows it of a book and any scale; here that scale is the book's own, so that lift and tip are calls on a head and a table. And
+-- SecondScale.antt shows it of a book and any scale; here that scale is the book's own, so that lift and tip are calls on a head and a table. And
 -- `beside_the_load`: of an accepted transfer on any head and table, whatever is on the scale, with a second scale.
 -- Assumes nothing.
 use Rattle.std.proofs.Common.{◌≡◌, refl, sym, ap, ◌∙◌, subst, ◌≢◌, List, [], ℕ, zero, suc, ◌+◌, ◌≤◌, ◌<◌, arith}
@@ -18,7 +18,7 @@ use Rattle.book.specs.Memory.{Outcome, outcome, book_checks, call_on}
 use Rattle.book.proofs.Sound.{own, number, SoundBook}
 use Rattle.book.proofs.Memory.{On, InStep, call_number, accepted_on, off_number, passed_book, book_passed, number_same, back, in_step}
 use Rattle.book.proofs.Known.{AddsUp, adds_up_told, adds_balance, adds_sound, adds_on}
-use Rattle.book.proofs.Divided.{Divides, lifted, second_scale}
+use Rattle.book.proofs.SecondScale.{Divides, lifted, second_scale}
 
 -- What a transfer and its lift and tip in succession have in common, on the head h and the table t.
 pub record Succession (h : Head) (t : List ℕ) (x : Transfer) (whole up down : Outcome) : Type 0 where

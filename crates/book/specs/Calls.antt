@@ -8,19 +8,22 @@ use Rattle.refusal.specs.Numbers.{Check, ◌if◌, if_zero}
 use Rattle.book.specs.declared.Transfer.{Transfer}
 use Rattle.book.specs.declared.Lift.{Lift}
 use Rattle.book.specs.declared.Tip.{Tip}
+use Rattle.book.specs.declared.Setting.{Setting}
 use Rattle.book.specs.declared.Motion.{Motion}
 use Rattle.book.specs.declared.Report.{Report}
 use Rattle.book.specs.Head.{Book, the_scale}
 use Rattle.book.specs.Motion.{of_book, takes, pieces_after, book_after}
 use Rattle.book.specs.Transfer.{transfer_checks, motion_of}
-use Rattle.book.specs.Scale.{lift_checks, tip_checks, lift_motion, tip_motion, as_they_lie}
+use Rattle.book.specs.Scale.{lift_checks, tip_checks, lift_motion, tip_motion}
+use Rattle.book.specs.Setting.{setting_checks, with_rule}
 use Rattle.book.specs.Reports.{report_row, report_checks, onto}
 
--- A call: a transfer, a lift, a tip, or a report with the room that it is lent to write to.
+-- A call: a transfer, a lift, a tip, the setting of a vessel's rule, or a report with the room that it is lent to write to.
 pub data Call : Type 0 where
   post : Transfer → Call
   lift : Lift → Call
   tip : Tip → Call
+  set_rule : Setting → Call
   ask : Report → List ℕ → Call
 
 -- "The answer carries the number of pieces moved whole, whether one was split, and the weight born."
@@ -54,20 +57,20 @@ pub record Meaning : Type 0 where
   pub counts : ℕ
   pub even : Book → ℕ
 
--- What takes weight from a vessel, by the rule of the book: a transfer, and a lift, which answers and counts as one.
+-- What takes weight from a vessel, by its rule: a transfer, and a lift, which answers and counts as one.
 -- Number 11, "split or birth due, pieces = places": the pieces afterwards would exceed the places (`table_full` shows the two the same).
 -- "Numbers behind the last piece are never written": `lay`.
 abbrev pub taking : (Book → List Check) → Motion → Meaning
 taking checks m =
     record {
-      checks = λ places b. checks b ++ (11 if ltb places (length (pieces_after b b.rule m)) ∷ []);
-      answer = λ b. answer_of (takes b b.rule m);
-      next = λ b. book_after b b.rule m;
-      table = λ b. lay (pieces_after b b.rule m);
+      checks = λ places b. checks b ++ (11 if ltb places (length (pieces_after b m)) ∷ []);
+      answer = λ b. answer_of (takes b m);
+      next = λ b. book_after b m;
+      table = λ b. lay (pieces_after b m);
       room = λ b. [];
       lent = [];
       counts = 1;
-      even = λ b. even_of (answer_of (takes b b.rule m));
+      even = λ b. even_of (answer_of (takes b m));
     }
 
 -- A lift onto a scale, and its tip, which moves all that lies there.
@@ -82,8 +85,8 @@ tipping scale y =
     record {
       checks = λ places b. tip_checks scale (of_book b) y;
       answer = λ b. no_answer;
-      next = λ b. book_after b as_they_lie (tip_on scale b y);
-      table = λ b. lay (pieces_after b as_they_lie (tip_on scale b y));
+      next = λ b. book_after b (tip_on scale b y);
+      table = λ b. lay (pieces_after b (tip_on scale b y));
       room = λ b. [];
       lent = [];
       counts = 0;
@@ -94,6 +97,17 @@ abbrev pub meaning : Call → Meaning
 meaning (post x) = taking (λ b. transfer_checks (of_book b) x) (motion_of x)
 meaning (lift x) = lifting the_scale x
 meaning (tip y) = tipping the_scale y
+meaning (set_rule s) =
+    record {
+      checks = λ places b. setting_checks b.vessels s;
+      answer = λ b. no_answer;
+      next = λ b. with_rule b s;
+      table = λ b t. t;
+      room = λ b. [];
+      lent = [];
+      counts = 0;
+      even = λ b. 0;
+    }
 meaning (ask q room) =
     record {
       checks = λ places b. report_checks b.vessels (length room) q;

@@ -1,23 +1,23 @@
--- A transfer of document 01, as it was before it had an age and there was a scale: source s, destination d, minute t, weight q. There is no
--- check 21, what is born has birth t, and a piece that lies in no vessel puts the book off. "Age 0 is the former meaning":
--- `age_zero` and `age_zero_weighed` (proofs/Ages.antt) show that a transfer of age 0 is this one, on a book with no weight on the scale, and to
--- the weigh book.
+-- A transfer of document 01, as it was before it had an age, there was a scale, and a vessel had a rule: source s, destination d, minute t, weight q.
+-- There is no check 21, what is born has birth t, and a piece that lies in no vessel puts the book off. "Age 0 is the former meaning":
+-- `age_zero` and `age_zero_weighed` (proofs/Ages.antt) show that a transfer of age 0 is this one, on a book with no weight on the scale whose rules
+-- were never set, and to the weigh book.
 -- Definitions only. Assumes nothing.
 use Rattle.std.specs.Prelude.{Bool, ◌&&◌, not, List, [], ◌∷◌, ◌++◌, ℕ, suc, ◌+◌, ◌-◌, leb, ltb, eqb, length}
 use Rattle.table.specs.Pieces.{only}
 use Rattle.table.specs.declared.Piece.{Piece}
-use Rattle.table.specs.Table.{pieces_of, lay, places_of}
+use Rattle.table.specs.Table.{pieces_of, places_of}
 use Rattle.taking.specs.declared.Move.{Move}
-use Rattle.taking.specs.Taking.{Taken, taken, handed}
 use Rattle.refusal.specs.Numbers.{TOP, Check, ◌if◌, first}
 use Rattle.book.specs.declared.Head.{Head}
 use Rattle.book.specs.declared.Transfer.{Transfer}
-use Rattle.book.specs.Head.{last_rule, most_vessels, Book, book_of, balances_of, all_of, lot_tests, every, same}
+use Rattle.book.specs.Head.{book_of, count_tests, balances_of, all_of, lot_tests, every, same}
 use Rattle.book.specs.Motion.{Standing, of_book}
 use Rattle.book.specs.Transfer.{transfer_of}
-use Rattle.book.specs.Calls.{answer_of, even_of, Meaning}
+use Rattle.book.specs.Calls.{Meaning}
 use Rattle.book.specs.Memory.{Outcome, outcome}
 use Rattle.book.specs.WeighBook.{WeighBook}
+use Rattle.book.specs.OneRule.{former_taking}
 
 -- the transfer that has age 0
 abbrev pub unaged : ℕ → ℕ → ℕ → ℕ → Transfer
@@ -37,40 +37,17 @@ former_checks g s d t q =
 abbrev pub former_move : ℕ → ℕ → ℕ → ℕ → Move
 former_move s d t q = record { source = s; destination = d; birth = t; weight = q }
 
-abbrev pub former_takes : Book → Move → Taken
-former_takes b x = taken b.rule x b.pieces
-
-abbrev pub former_pieces : Book → Move → List Piece
-former_pieces b x = handed x (former_takes b x)
-
 abbrev pub former_meaning : ℕ → ℕ → ℕ → ℕ → Meaning
-former_meaning s d t q =
-    let x = former_move s d t q in
-    record {
-      checks = λ places b. former_checks (of_book b) s d t q ++ (11 if ltb places (length (former_pieces b x)) ∷ []);
-      answer = λ b. answer_of (former_takes b x);
-      next = λ b. record { rule = b.rule; vessels = b.vessels; last = t; accepted = suc b.accepted; pieces = former_pieces b x };
-      table = λ b. lay (former_pieces b x);
-      room = λ b. [];
-      lent = [];
-      counts = 1;
-      even = λ b. even_of (answer_of (former_takes b x));
-    }
+former_meaning s d t q = former_taking (λ b. former_checks (of_book b) s d t q) (record { moves = former_move s d t q; minute = t; counts = 1 })
 
--- a book that adds up, where every piece lies in a vessel and the head has no scale
+-- a book that adds up, where every piece lies in a vessel, and the head has no scale and no rules of vessels
 abbrev pub former_fits : ℕ → ℕ → Piece → Bool
 former_fits size last p = all_of (ltb p.holder size ∷ lot_tests size last p)
 
 abbrev pub former_tests : Head → List ℕ → List Bool
 former_tests h t =
-    leb h.rule last_rule
-    ∷ leb 1 h.vessels
-    ∷ leb h.vessels most_vessels
-    ∷ leb h.pieces (places_of t)
-    ∷ leb h.pieces h.accepted
-    ∷ every (former_fits h.vessels h.last) (pieces_of h.pieces t)
-    ∷ same h.balances (balances_of h.vessels (pieces_of h.pieces t))
-    ∷ []
+    count_tests h t
+    ++ (every (former_fits h.vessels h.last) (pieces_of h.pieces t) ∷ same h.balances (balances_of h.vessels (pieces_of h.pieces t)) ∷ [])
 
 abbrev pub former_book_checks : Head → List ℕ → List Check
 former_book_checks h t = 1 if ltb (length t) 4 ∷ 4 if not (all_of (former_tests h t)) ∷ []

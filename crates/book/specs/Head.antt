@@ -2,7 +2,7 @@
 -- The head is the record `Head` of src/lib.rt. A book here is what head and table tell together, with a list of pieces; its
 -- balances, the scale's among them, are sums of the pieces, so that they cannot be wrong.
 -- Definitions only. Assumes nothing.
-use Rattle.std.specs.Prelude.{Bool, true, false, ◌&&◌, ◌||◌, cond, List, [], ◌∷◌, ◌++◌, ℕ, zero, suc, ◌+◌, ◌-◌, ◌≤◌, ◌<◌, leb, ltb, eqb, length, get_or, set, replicate}
+use Rattle.std.specs.Prelude.{Bool, true, false, ◌&&◌, ◌||◌, cond, List, [], ◌∷◌, ◌++◌, ℕ, zero, suc, ◌+◌, ◌-◌, ◌≤◌, ◌<◌, leb, ltb, eqb, length, get_or, set, replicate, take, drop}
 use Rattle.std.specs.List.{list_all}
 use Rattle.table.specs.declared.Piece.{Piece}
 use Rattle.table.specs.Pieces.{held}
@@ -34,6 +34,14 @@ is_holder size v = ltb v size || eqb v the_scale
 abbrev pub holdings : Head → List ℕ
 holdings h = h.balances ++ (h.scale ∷ [])
 
+-- The pieces on the scale "leave it in the order they lie in the table": rule 0 picks them.
+abbrev pub as_they_lie : ℕ
+as_they_lie = 0
+
+-- The rule by which the pieces of a holder are picked: each vessel has its own, and the scale has none.
+abbrev pub rule_at : List ℕ → ℕ → ℕ
+rule_at rules v = cond (ltb v most_vessels) (get_or rules v 0) as_they_lie
+
 -- the balance of a holder, and the head with another one
 unfoldable pub balance_at : Head → ℕ → ℕ
 balance_at h v = cond (eqb v the_scale) h.scale (get_or h.balances v 0)
@@ -49,6 +57,7 @@ with_balance h v w =
       accepted = h.accepted;
       balances = cond scaled h.balances (set h.balances v w);
       scale = cond scaled w h.scale;
+      rules = h.rules;
     }
 
 -- the head after a holder gave weight and another received weight
@@ -69,12 +78,13 @@ pub record Sized (h : Head) : Type 0 where
   pub light : (v : ℕ) → balance_at h v ≤ TOP
   pub tally : h.accepted ≤ TOP
 
--- A book: what the head says, and the pieces in order of receipt.
+-- A book: what the head says, and the pieces in order of receipt. Its rule is that with which it was opened, and picks nothing.
 pub record Book : Type 0 where
   pub rule : ℕ
   pub vessels : ℕ
   pub last : ℕ
   pub accepted : ℕ
+  pub rules : List ℕ
   pub pieces : List Piece
 
 -- f i, f (i + 1), .., n of them
@@ -100,10 +110,11 @@ head_of b =
       accepted = b.accepted;
       balances = balances_of b.vessels b.pieces;
       scale = held the_scale b.pieces;
+      rules = b.rules;
     }
 
 abbrev pub book_of : Head → List ℕ → Book
-book_of h t = record { rule = h.rule; vessels = h.vessels; last = h.last; accepted = h.accepted; pieces = pieces_of h.pieces t }
+book_of h t = record { rule = h.rule; vessels = h.vessels; last = h.last; accepted = h.accepted; rules = h.rules; pieces = pieces_of h.pieces t }
 
 -- whether all of these hold
 abbrev pub all_of : List Bool → Bool
@@ -139,26 +150,35 @@ same (x ∷ xs) (y ∷ ys) = eqb x y && same xs ys
 unfoldable pub all_zero : List ℕ → Bool
 all_zero xs = list_all (λ x. eqb x 0) xs
 
+-- "each of these rules below V is known and those from V on are 0"
+abbrev pub known_rule : ℕ → Bool
+known_rule rule = leb rule last_rule
+
+unfoldable pub rules_fit : ℕ → List ℕ → Bool
+rules_fit size rules = list_all known_rule (take size rules) && all_zero (drop size rules)
+
 -- "each piece ..; each balance ..", and "the scale's balance is the sum of its pieces"
 abbrev pub balanced : Head → List Piece → List Bool
 balanced h ps = every (fits h.vessels h.last) ps ∷ same h.balances (balances_of h.vessels ps) ∷ eqb h.scale (held the_scale ps) ∷ []
 
 -- "A book adds up if: rule is 0 to 3; V is 1 to 64; pieces ≤ places; pieces ≤ accepted; .."
+abbrev pub count_tests : Head → List ℕ → List Bool
+count_tests h t = leb h.rule last_rule ∷ leb 1 h.vessels ∷ leb h.vessels most_vessels ∷ leb h.pieces (places_of t) ∷ leb h.pieces h.accepted ∷ []
+
 abbrev pub book_tests : Head → List ℕ → List Bool
-book_tests h t =
-    leb h.rule last_rule
-    ∷ leb 1 h.vessels
-    ∷ leb h.vessels most_vessels
-    ∷ leb h.pieces (places_of t)
-    ∷ leb h.pieces h.accepted
-    ∷ balanced h (pieces_of h.pieces t)
+book_tests h t = count_tests h t ++ (rules_fit h.vessels h.rules ∷ balanced h (pieces_of h.pieces t))
 
 unfoldable pub adds_up : Head → List ℕ → Bool
 adds_up h t = all_of (book_tests h t)
 
+-- "Opening gives every vessel the book's rule": every one that the book has.
+abbrev pub given_rules : ℕ → ℕ → List ℕ
+given_rules rule size = replicate size rule ++ replicate (most_vessels - size) 0
+
 -- "Opening takes a rule and V; the fresh head has all other numbers 0." It checks 2, 3; a refusal gives a head of zeros.
 abbrev pub empty_head : ℕ → ℕ → Head
-empty_head rule size = record { rule = rule; vessels = size; pieces = 0; last = 0; accepted = 0; balances = replicate most_vessels 0; scale = 0 }
+empty_head rule size =
+    record { rule = rule; vessels = size; pieces = 0; last = 0; accepted = 0; balances = replicate most_vessels 0; scale = 0; rules = given_rules rule size }
 
 abbrev pub not_opened : ℕ → Reply
 not_opened n = record { number = n; head = empty_head 0 0 }
@@ -175,4 +195,4 @@ opening rule size = opens rule size (first (open_checks rule size))
 
 -- the empty book
 abbrev pub opened : ℕ → ℕ → Book
-opened rule size = record { rule = rule; vessels = size; last = 0; accepted = 0; pieces = [] }
+opened rule size = record { rule = rule; vessels = size; last = 0; accepted = 0; rules = given_rules rule size; pieces = [] }

@@ -2,9 +2,11 @@ pub mod Head
 pub mod Motion
 pub mod Transfer
 pub mod Scale
+pub mod Setting
 pub mod Reports
 pub mod Calls
 pub mod Memory
-pub mod Former
 pub mod WeighBook
 pub mod Lists
+pub mod OneRule
+pub mod Former

@@ -1,12 +1,12 @@
 -- Lists of calls, and demand 3: "Each call gets the head that the last one returned and the table as that one left it."
 -- Definitions only. Assumes nothing.
-use Rattle.std.specs.Prelude.{◌≡◌, true, List, [], ◌∷◌, ℕ, ◌+◌, ◌≤◌, length}
+use Rattle.std.specs.Prelude.{◌≡◌, Bool, true, false, cond, List, [], ◌∷◌, ℕ, ◌+◌, ◌≤◌, length}
 use Rattle.table.specs.Pieces.{sum, born_at, held}
 use Rattle.table.specs.Table.{places_of}
 use Rattle.refusal.specs.Numbers.{if_zero}
 use Rattle.book.specs.declared.Head.{Head}
 use Rattle.book.specs.Head.{Book, book_of, adds_up, opened}
-use Rattle.book.specs.Calls.{Call, post, lift, tip, ask, meaning}
+use Rattle.book.specs.Calls.{Call, post, lift, tip, set_rule, ask, meaning}
 use Rattle.book.specs.Memory.{Outcome, call_on}
 use Rattle.book.specs.WeighBook.{blank, feed, listed, forecast}
 
@@ -49,6 +49,7 @@ abbrev pub tips_in : Call → ℕ
 tips_in (post x) = 0
 tips_in (lift x) = 0
 tips_in (tip y) = 1
+tips_in (set_rule s) = 0
 tips_in (ask q room) = 0
 
 abbrev pub tips : List Call → ℕ
@@ -62,6 +63,18 @@ evens (e ∷ es) = e.even + evens es
 abbrev pub numbers : List Entry → List ℕ
 numbers [] = []
 numbers (e ∷ es) = listed e.asked e.number (numbers es)
+
+-- whether a call sets a rule, and a list without those that do
+abbrev pub sets_rule : Call → Bool
+sets_rule (post x) = false
+sets_rule (lift x) = false
+sets_rule (tip y) = false
+sets_rule (set_rule s) = true
+sets_rule (ask q room) = false
+
+abbrev pub without_settings : List Call → List Call
+without_settings [] = []
+without_settings (c ∷ cs) = cond (sets_rule c) (without_settings cs) (c ∷ without_settings cs)
 
 -- Demand 3, of the journal r of the calls cs on the head of an opening with this rule and this many vessels, and on the table t.
 pub record Demand3 (rule size : ℕ) (t : List ℕ) (cs : List Call) (r : Journal) : Type 0 where

@@ -6,7 +6,7 @@ use Rattle.table.specs.Pieces.{held}
 use Rattle.taking.specs.Taking.{Taken, taken, handed}
 use Rattle.book.specs.declared.Head.{Head}
 use Rattle.book.specs.declared.Motion.{Motion}
-use Rattle.book.specs.Head.{Book, balance_at}
+use Rattle.book.specs.Head.{Book, balance_at, rule_at}
 
 -- What checks look at. A book, its head and the weigh book each have it, and they make the same checks.
 pub record Standing : Type 0 where
@@ -21,13 +21,14 @@ of_book b = record { vessels = b.vessels; balance = λ v. held v b.pieces; last 
 abbrev pub of_head : Head → Standing
 of_head h = record { vessels = h.vessels; balance = balance_at h; last = h.last; accepted = h.accepted }
 
--- What a motion (the record `Motion` of src/lib.rt) takes from the book where pieces are picked by a rule, and the pieces afterwards.
-unfoldable pub takes : Book → ℕ → Motion → Taken
-takes b rule m = taken rule m.moves b.pieces
+-- "A pick goes by the rule of its source": what a motion (the record `Motion` of src/lib.rt) takes from the book, and the pieces afterwards.
+unfoldable pub takes : Book → Motion → Taken
+takes b m = taken (rule_at b.rules m.moves.source) m.moves b.pieces
 
-abbrev pub pieces_after : Book → ℕ → Motion → List Piece
-pieces_after b rule m = handed m.moves (takes b rule m)
+abbrev pub pieces_after : Book → Motion → List Piece
+pieces_after b m = handed m.moves (takes b m)
 
 -- The book afterwards: "accepted goes up by 1", where it counts as a transfer, "and the last minute is t".
-abbrev pub book_after : Book → ℕ → Motion → Book
-book_after b rule m = record { rule = b.rule; vessels = b.vessels; last = m.minute; accepted = b.accepted + m.counts; pieces = pieces_after b rule m }
+abbrev pub book_after : Book → Motion → Book
+book_after b m =
+    record { rule = b.rule; vessels = b.vessels; last = m.minute; accepted = b.accepted + m.counts; rules = b.rules; pieces = pieces_after b m }

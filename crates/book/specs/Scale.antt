@@ -17,7 +17,7 @@ lift_of s t q age = record { source = s; minute = t; weight = q; age = age }
 abbrev pub tip_of : ℕ → ℕ → Tip
 tip_of d t = record { destination = d; minute = t }
 
--- "A transfer is divided": into this lift and this tip. `second_scale` (proofs/Divided.antt) shows that it leaves what they leave, whatever lies on the
+-- "A transfer is divided": into this lift and this tip. `second_scale` (proofs/SecondScale.antt) shows that it leaves what they leave, whatever lies on the
 -- book's own scale, and `succession` that these can be calls where nothing does.
 abbrev pub lift_part : Transfer → Lift
 lift_part x = lift_of x.source x.minute x.weight x.age
@@ -58,7 +58,3 @@ tip_motion scale weight y =
       minute = y.minute;
       counts = 0;
     }
-
--- The pieces on the scale "leave it in the order they lie in the table": rule 0 picks them, whatever the rule of the book.
-abbrev pub as_they_lie : ℕ
-as_they_lie = 0

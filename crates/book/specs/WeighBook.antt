@@ -8,7 +8,7 @@ use Rattle.book.specs.Head.{the_scale}
 use Rattle.book.specs.Motion.{Standing}
 use Rattle.book.specs.Transfer.{transfer_checks, motion_of}
 use Rattle.book.specs.Scale.{lift_checks, tip_checks, lift_motion, tip_motion}
-use Rattle.book.specs.Calls.{Call, post, lift, tip, ask}
+use Rattle.book.specs.Calls.{Call, post, lift, tip, set_rule, ask}
 
 -- "weight W of each vessel, births B of each vessel and minute, last minute, accepted; all 0 at first"; the scale's weight is that of holder 64
 pub record WeighBook : Type 0 where
@@ -46,11 +46,12 @@ pub record Weighing : Type 0 where
 
 -- "it checks 5 to 10 .. with W as balance", and "21 as the transfer does"; "a lift is to it a transfer onto the scale, a tip moves all its
 -- weight there to d, sets last and leaves accepted. It makes their checks as it makes a transfer's, gives 22 and 23 by its own weight there";
--- reports it is not fed
+-- settings of rules and reports it is not fed
 abbrev pub weighing : Call → Weighing
 weighing (post x) = record { checks = λ w. transfer_checks (of_weigh w) x; next = λ w. weighed w (motion_of x); forecasts = true }
 weighing (lift x) = record { checks = λ w. lift_checks the_scale (of_weigh w) x; next = λ w. weighed w (lift_motion the_scale x); forecasts = true }
 weighing (tip y) = record { checks = λ w. tip_checks the_scale (of_weigh w) y; next = λ w. weighed w (tip_motion the_scale (w.weight the_scale) y); forecasts = true }
+weighing (set_rule s) = record { checks = λ w. []; next = λ w. w; forecasts = false }
 weighing (ask q room) = record { checks = λ w. []; next = λ w. w; forecasts = false }
 
 -- "The first that applies is its answer, and nothing changes."

@@ -6,16 +6,17 @@ ghost use Rattle.std.specs.Prelude.{◌≡◌};
 
 use taking::Move;
 
-// A head holds a balance for each vessel that a book can have.
-pub const BALANCES: usize = 64;
+// A head holds a balance and a rule for each vessel that a book can have.
+pub const MOST_VESSELS: usize = 64;
 
 // The scale is one more holder: its number comes after those of all vessels.
-pub const SCALE: u32 = BALANCES as u32;
+pub const SCALE: u32 = MOST_VESSELS as u32;
 
 // The holders: all vessels, and the scale.
-pub const HOLDERS: usize = BALANCES + 1;
+pub const HOLDERS: usize = MOST_VESSELS + 1;
 
-// The head of a book. `scale` is the balance of the scale.
+// The head of a book. `scale` is the balance of the scale; `rule` is that with which the book was opened, and `rules` has that of each vessel, by which
+// its pieces are picked.
 #[repr(C)]
 #[derive(Clone, Copy, Debug, PartialEq, Eq)]
 pub struct Head {
@@ -24,11 +25,12 @@ pub struct Head {
     pub pieces: u32,
     pub last: u32,
     pub accepted: u32,
-    pub balances: [u32; BALANCES],
+    pub balances: [u32; MOST_VESSELS],
     pub scale: u32,
+    pub rules: [u32; MOST_VESSELS],
 }
 
-// What opening, a tip and a report answer. C gets it by value, as all answers here, so that a number tells a refusal: `Result` has no layout there.
+// What opening, a tip, the setting of a rule and a report answer. C gets it by value, as all answers here, so that a number tells a refusal: `Result` has no layout there.
 #[repr(C)]
 #[derive(Clone, Copy, Debug, PartialEq, Eq)]
 pub struct Reply {
@@ -63,6 +65,13 @@ pub struct Lift {
 pub struct Tip {
     pub destination: u32,
     pub minute: u32,
+}
+
+// The rule that a vessel is given, for later picks.
+#[derive(Clone, Copy, Debug, PartialEq, Eq)]
+pub struct Setting {
+    pub vessel: u32,
+    pub rule: u32,
 }
 
 // What transfer, lift and tip do to a book: the move of pieces, the minute, and how often it counts as a transfer.

@@ -8,14 +8,14 @@ use Rattle.table.specs.Closing.{Present}
 use Rattle.table.specs.Table.{pieces_of, places_of}
 use Rattle.table.proofs.Pieces.{all_map}
 use Rattle.table.proofs.Table.{places_fit}
-use Rattle.taking.specs.Taking.{Taken, taken, handed}
+use Rattle.taking.specs.Taking.{Taken, handed}
 use Rattle.moving.specs.declared.Applied.{Applied}
 use Rattle.moving.specs.Applied.{accepted, applied, Ready, Moves}
 use Rattle.refusal.specs.Numbers.{first}
 use Rattle.book.specs.declared.Head.{Head}
 use Rattle.book.specs.declared.Motion.{Motion}
 use Rattle.refusal.specs.declared.Refusal.{Refusal}
-use Rattle.book.specs.Head.{Book, most_vessels, most_holders, Sized, Shiftable, balance_at, with_balance, holdings, shifted, head_of, book_of}
+use Rattle.book.specs.Head.{Book, most_vessels, most_holders, Sized, Shiftable, balance_at, with_balance, holdings, shifted, head_of, book_of, rule_at}
 use Rattle.book.specs.Motion.{takes, pieces_after, book_after}
 use Rattle.book.specs.Memory.{book_checks}
 use Rattle.book.proofs.HolderLaws.{holder_bound}
@@ -35,37 +35,35 @@ work_known h t w = known_up h t w.sized w.book_adds_up
 pub vessels_fit : (h : Head) (t : List ℕ) → Audited h t → h.vessels ≤ most_vessels
 vessels_fit h t w = (work_known h t w).sound.vessels_fit
 
--- A motion, with pieces picked by the rule.
-module _ (h : Head) (t : List ℕ) (w : Audited h t) (rule : ℕ) (m : Motion) where
+-- A motion.
+module _ (h : Head) (t : List ℕ) (w : Audited h t) (m : Motion) where
   abbrev b : Book
   b = book_of h t
 
   abbrev r : Taken
-  r = taken rule m.moves (pieces_of h.pieces t)
+  r = takes b m
 
   k : Known h t
   k = work_known h t w
 
   born_is : r.born ≡ m.moves.weight - held m.moves.source b.pieces
-  unfolding takes
-  born_is = (takes_law b rule m).fair.born_is
+  born_is = (takes_law b m).fair.born_is
 
   -- what the source gives is what is not born
   after : (v : ℕ) → held v (handed m.moves r)
       ≡ (held v b.pieces - only (eqb m.moves.source v) (m.moves.weight - r.born)) + only (eqb m.moves.destination v) m.moves.weight
-  unfolding takes
-  after v = grind (arith, held_after b rule m v, born_is)
+  after v = grind (arith, held_after b m v, born_is)
 
   -- the next head's balances are what the holders have afterwards, so that it is the head of the book afterwards
   module _ (source_in : m.moves.source < most_holders) (destination_in : m.moves.destination < most_holders) where
     next_match : Matches (holdings (shifted h m.moves.source (m.moves.weight - r.born) m.moves.destination m.moves.weight)) (handed m.moves r)
     next_match = shift_matches h b.pieces (handed m.moves r) m.moves.source _ m.moves.destination _ source_in destination_in k.matches after
 
-    pub next_head_is : Holders h.vessels (pieces_after b rule m) → next_head h m (accepted m.moves r) ≡ head_of (book_after b rule m)
+    pub next_head_is : Holders h.vessels (pieces_after b m) → next_head h m (accepted m.moves r) ≡ head_of (book_after b m)
     unfolding takes with_balance
     next_head_is u =
         let s = shifted h m.moves.source (m.moves.weight - r.born) m.moves.destination m.moves.weight in
-        let e = matches_balances h.vessels s.balances s.scale (pieces_after b rule m) u (long_balances s _ next_match) next_match in
+        let e = matches_balances h.vessels s.balances s.scale (pieces_after b m) u (long_balances s _ next_match) next_match in
         rw (e.0, e.1)
 
   -- what its checks see to
@@ -82,10 +80,11 @@ module _ (h : Head) (t : List ℕ) (w : Audited h t) (rule : ℕ) (m : Motion) w
         let present : All Present (pieces_of h.pieces t) = all_map (λ q g. let n = holder_bound h.vessels _ g.holder_in k.sound.vessels_fit in omega arith) k.sound.sound in
         grind (arith, k.few, places_fit t p p ep, present)
 
-    module _ (p : ℕ) (ep : p ≡ places_of t) (t' : List ℕ) (o : Option Applied) (moves : Moves h.pieces p rule m.moves t t' o) where
+    module _ (p : ℕ) (ep : p ≡ places_of t) (rule : ℕ) (er : rule ≡ rule_at h.rules m.moves.source) (t' : List ℕ) (o : Option Applied)
+        (moves : Moves h.pieces p rule m.moves t t' o) where
       -- it was carried, whatever is answered where it was not
       module _ (a : Applied) (why : Refusal) (k : Result Applied Refusal) (ek : k ≡ ok_or o why) (ea : k ≡ Ok a) where
         -- what the next head asks
         pub move_countable : Countable h m a
-        unfolding places_of applied
+        unfolding places_of applied takes
         move_countable = grind (arith, nat_tests, born_is, shifts)

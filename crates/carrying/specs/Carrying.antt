@@ -3,8 +3,7 @@
 -- Definitions only. Assumes nothing.
 use Rattle.std.specs.Prelude.{◌≡◌, ◌≢◌, true, List, ℕ, ◌+◌, ◌-◌, ◌≤◌, ◌<◌, length, Option, None, Some, Result, Ok, Err}
 use Rattle.refusal.specs.Numbers.{TOP}
-use Rattle.table.specs.Table.{most_places, pieces_of, places_of}
-use Rattle.taking.specs.Taking.{taken}
+use Rattle.table.specs.Table.{most_places, places_of}
 use Rattle.moving.specs.declared.Applied.{Applied}
 use Rattle.moving.specs.Applied.{applied, table_left}
 use Rattle.book.specs.declared.Head.{Head}
@@ -12,7 +11,8 @@ use Rattle.book.specs.declared.Motion.{Motion}
 use Rattle.carrying.specs.declared.Carried.{Carried}
 use Rattle.refusal.specs.declared.Refusal.{Refusal}
 use Rattle.refusal.specs.declared.Refusal.TheVariants.{TableFull}
-use Rattle.book.specs.Head.{most_holders, Sized, Shiftable, balance_at, shifted, adds_up}
+use Rattle.book.specs.Head.{most_holders, Sized, Shiftable, balance_at, shifted, book_of, adds_up}
+use Rattle.book.specs.Motion.{takes}
 
 -- A book in memory that is known to add up.
 pub record Audited (h : Head) (t : List ℕ) : Type 0 where
@@ -32,7 +32,7 @@ pub record Carriable (h : Head) (m : Motion) : Type 0 where
 abbrev pub next_head : Head → Motion → Applied → Head
 next_head h m a =
     let s = shifted h m.moves.source (m.moves.weight - a.born) m.moves.destination m.moves.weight in
-    record { rule = s.rule; vessels = s.vessels; pieces = a.count; last = m.minute; accepted = h.accepted + m.counts; balances = s.balances; scale = s.scale }
+    record { rule = s.rule; vessels = s.vessels; pieces = a.count; last = m.minute; accepted = h.accepted + m.counts; balances = s.balances; scale = s.scale; rules = s.rules }
 
 -- The numbers of that head are ones of 32 bits.
 pub record Countable (h : Head) (m : Motion) (a : Applied) : Type 0 where
@@ -46,7 +46,7 @@ abbrev pub concluded : Head → Motion → Option Applied → Result Carried Ref
 concluded h m None = Err TableFull
 concluded h m (Some a) = Ok (record { head = next_head h m a; whole = a.whole; split = a.split; born = a.born })
 
--- What carrying a motion promises, with pieces picked by a rule.
-pub record Carries (h : Head) (rule : ℕ) (m : Motion) (t t' : List ℕ) (r : Result Carried Refusal) : Type 0 where
-  pub answer : r ≡ concluded h m (applied (places_of t) m.moves (taken rule m.moves (pieces_of h.pieces t)))
-  pub table : t' ≡ table_left (places_of t) m.moves (taken rule m.moves (pieces_of h.pieces t)) t
+-- What carrying a motion promises: the pieces are those that it takes from the book.
+pub record Carries (h : Head) (m : Motion) (t t' : List ℕ) (r : Result Carried Refusal) : Type 0 where
+  pub answer : r ≡ concluded h m (applied (places_of t) m.moves (takes (book_of h t) m))
+  pub table : t' ≡ table_left (places_of t) m.moves (takes (book_of h t) m) t

@@ -8,7 +8,7 @@ ghost use Rattle.book.specs.Scale.{lift_motion, tip_motion};
 ghost use Rattle.carrying.specs.Carrying.{Audited, Carriable, next_head, Countable, Carries};
 
 use book::{Head, Lift, Motion, SCALE, Tip, Transfer};
-use ledger::balances;
+use ledger::{balances, rules};
 use moving::{Applied, Workspace};
 use refusal::Refusal;
 use taking::Move;
@@ -87,20 +87,21 @@ fn next_head(head: Head, m: Motion, moved: Applied) -> Head
     next
 }
 
-// The motion, with pieces picked by a rule and with memory lent to work in. Here and in the crates above, head, table and memory are parameters of their own:
+// The motion, with pieces picked by the rule of its source and with memory lent to work in. Here and in the crates above, head, table and memory are parameters of their own:
 // C lends head and table each by itself, and the table is written.
+#[tactic(auto, unfolding(book::specs::Motion::takes))]
 pub fn carry(
     head: Head,
     table: &mut [u32],
-    rule: u32,
     m: Motion,
     work: &mut Workspace,
 ) -> Result<Carried, Refusal>
     requires { Audited head table.old × Carriable head m }
-    ensures { Carries head rule m table.old table.new result }
+    ensures { Carries head m table.old table.new result }
 {
     let n = head.pieces as usize;
     let places = table::places(table);
+    let rule = rules::rule_at(head, m.moves.source);
     let moved = moving::move_pieces(table, n, places, rule, m.moves, work).ok_or(
         Refusal::TableFull,
     )?;

@@ -12,15 +12,17 @@ use Rattle.refusal.proofs.Refusals.{some_number}
 use Rattle.std.specs.Prelude.{Ok}
 use Rattle.book.specs.declared.Head.{Head}
 use Rattle.book.specs.declared.Reply.{Reply}
-use Rattle.book.specs.Head.{empty_head, not_opened, open_checks, opening}
+use Rattle.book.specs.Head.{most_vessels, empty_head, not_opened, open_checks, opening}
 use Rattle.book.specs.declared.Report.{Report}
-use Rattle.book.specs.Calls.{ask}
-use Rattle.book.specs.Memory.{call_on}
+use Rattle.book.specs.declared.Setting.{Setting}
+use Rattle.book.specs.Calls.{set_rule, ask}
+use Rattle.book.specs.Memory.{call_on, replied}
 use Rattle.book.specs.Lists.{calls_on}
 use Rattle.reports.specs.Asking.{Asks}
 use Rattle.journal.specs.Carried.{call_size, call_in, age_off, room_left, Makes, Carried, carried, all_carried, MakesAll, calls_in, count_calls, carry_number, CarriesOut}
 use Rattle.reports.proofs.Asked.{asked_nothing}
-use Rattle.book.proofs.HeadLaws.{open_accepted}
+use Rattle.book.proofs.HeadLaws.{openable, open_accepted}
+use Rattle.book.proofs.InWords.{set_writes_nothing}
 use Rattle.book.proofs.Lists.{demand_3}
 use Rattle.journal.specs.declared.Call as Read
 use Rattle.journal.specs.Reading.{call_read, called}
@@ -30,6 +32,10 @@ use Rattle.journal.proofs.Grouped.{groups, first_groups, count_groups, grouped_a
 -- a report as a call
 pub made_report : {h : Head} {t room r' : List ℕ} {q : Report} {z : Reply} → Asks h q t room r' z → Makes h (ask q room) t room t r' z
 made_report {h = h} {t = t} {room = room} {q = q} p = record { answer = p.answer; table = sym (asked_nothing h t q room).1; room = p.room }
+
+-- and the setting of a rule
+pub made_setting : {h : Head} {t room : List ℕ} {s : Setting} {z : Reply} → z ≡ replied (call_on h t (set_rule s)) → Makes h (set_rule s) t room t room z
+made_setting {h = h} {t = t} {s = s} p = record { answer = p; table = sym (set_writes_nothing h t s); room = refl }
 
 -- what is left of a list, behind the numbers of the calls before
 abbrev behind : List ℕ → Carried → Carried
@@ -108,6 +114,9 @@ module _ (rule size : ℕ) (l a : List ℕ) (gs : List (List ℕ)) (n : ℕ) (ea
   module _ (e : 0 ≡ checks) where
     opens_well : first (open_checks rule size) ≡ 0
     opens_well = passed_first (open_checks rule size) (18 if list_any age_off calls ∷ []) tt (sym e)
+
+    pub carry_few : size ≤ most_vessels
+    carry_few = (openable rule size opens_well).few_vessels
 
     pub carry_ready : (length calls ≤ length a) × (list_any age_off calls ≡ false)
     carry_ready =

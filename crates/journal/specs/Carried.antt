@@ -1,6 +1,7 @@
 -- A list of calls in numbers, carried out on a fresh book: demand 3 of running code. Six numbers are a call: its kind and its arguments.
 -- Kind 0 is a transfer (source, destination, minute, weight, age), 1 the held report (vessel), 2 spread (origin, from, to), 4 a lift (source, minute,
--- weight, age), 5 a tip (destination, minute), 3 and any other the whole report. Numbers behind the arguments are not looked at.
+-- weight, age), 5 a tip (destination, minute), 6 the setting of a rule (vessel, rule), 3 and any other the whole report. Numbers behind the arguments are
+-- not looked at.
 -- An age is a number of 16 bits: a list with a transfer or a lift of a larger one is refused whole, with 18.
 -- Definitions only. Assumes nothing.
 use Rattle.std.specs.Prelude.{◌≡◌, Bool, false, cond, ◌||◌, List, [], ◌∷◌, ◌++◌, ℕ, zero, suc, ◌/◌, min, eqb, ltb, length, get_or, drop}
@@ -13,9 +14,11 @@ use Rattle.book.specs.declared.Report.TheVariants.{Held, Spread, Whole}
 use Rattle.book.specs.declared.Transfer.{Transfer}
 use Rattle.book.specs.declared.Lift.{Lift}
 use Rattle.book.specs.declared.Tip.{Tip}
+use Rattle.book.specs.declared.Setting.{Setting}
 use Rattle.book.specs.Transfer.{most_age, transfer_of}
 use Rattle.book.specs.Scale.{lift_of, tip_of}
-use Rattle.book.specs.Calls.{Call, post, lift, tip, ask}
+use Rattle.book.specs.Setting.{setting_of}
+use Rattle.book.specs.Calls.{Call, post, lift, tip, set_rule, ask}
 use Rattle.book.specs.Memory.{Outcome, call_on, replied}
 use Rattle.book.specs.Lists.{calls_on, Demand3}
 
@@ -26,7 +29,7 @@ call_size = 6
 abbrev pub report_of : ℕ → ℕ → ℕ → ℕ → Report
 report_of kind a b c = cond (eqb kind 1) (Held a) (cond (eqb kind 2) (Spread a b c) Whole)
 
--- the transfer in the first six numbers, where they are one, the lift, the tip and the report
+-- the transfer in the first six numbers, where they are one, the lift, the tip, the setting and the report
 abbrev pub transfer_in : List ℕ → Transfer
 transfer_in l = transfer_of (get_or l 1 0) (get_or l 2 0) (get_or l 3 0) (get_or l 4 0) (get_or l 5 0)
 
@@ -36,6 +39,9 @@ lift_in l = lift_of (get_or l 1 0) (get_or l 2 0) (get_or l 3 0) (get_or l 4 0)
 abbrev pub tip_in : List ℕ → Tip
 tip_in l = tip_of (get_or l 1 0) (get_or l 2 0)
 
+abbrev pub setting_in : List ℕ → Setting
+setting_in l = setting_of (get_or l 1 0) (get_or l 2 0)
+
 abbrev pub report_in : List ℕ → Report
 report_in l = report_of (get_or l 0 0) (get_or l 1 0) (get_or l 2 0) (get_or l 3 0)
 
@@ -43,7 +49,8 @@ report_in l = report_of (get_or l 0 0) (get_or l 1 0) (get_or l 2 0) (get_or l 3
 unfoldable pub call_in : List ℕ → List ℕ → Call
 call_in l room =
     let kind = get_or l 0 0 in
-    cond (eqb kind 0) (post (transfer_in l)) (cond (eqb kind 4) (lift (lift_in l)) (cond (eqb kind 5) (tip (tip_in l)) (ask (report_in l) room)))
+    cond (eqb kind 0) (post (transfer_in l))
+    (cond (eqb kind 4) (lift (lift_in l)) (cond (eqb kind 5) (tip (tip_in l)) (cond (eqb kind 6) (set_rule (setting_in l)) (ask (report_in l) room))))
 
 -- the age in the first six numbers, 0 where the call has none; whether it is above the largest, and whether one of the first n calls has such an age
 abbrev pub age_in : List ℕ → ℕ
@@ -61,6 +68,7 @@ abbrev pub room_left : Call → Outcome → List ℕ → List ℕ
 room_left (post x) o room = room
 room_left (lift x) o room = room
 room_left (tip y) o room = room
+room_left (set_rule s) o room = room
 room_left (ask q r) o room = o.room
 
 -- What any call promises: its number and the next head, and table and room after it.

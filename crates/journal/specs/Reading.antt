@@ -5,11 +5,11 @@ use Rattle.std.specs.Prelude.{cond, List, ℕ, eqb, ltb, get_or, Result, Ok, Err
 use Rattle.refusal.specs.declared.Refusal.{Refusal}
 use Rattle.refusal.specs.declared.Refusal.TheVariants.{AgeOver}
 use Rattle.book.specs.Transfer.{most_age}
-use Rattle.book.specs.Calls.{post, lift, tip, ask}
+use Rattle.book.specs.Calls.{post, lift, tip, set_rule, ask}
 use Rattle.book.specs.Calls as Calls
 use Rattle.journal.specs.declared.Call.{Call}
-use Rattle.journal.specs.declared.Call.TheVariants.{Transfer, Lift, Tip, Report}
-use Rattle.journal.specs.Carried.{transfer_in, lift_in, tip_in, report_in, age_off}
+use Rattle.journal.specs.declared.Call.TheVariants.{Transfer, Lift, Tip, Setting, Report}
+use Rattle.journal.specs.Carried.{transfer_in, lift_in, tip_in, setting_in, report_in, age_off}
 
 -- an age is a number of 16 bits
 abbrev pub age_read : ℕ → Result ℕ Refusal
@@ -19,7 +19,8 @@ age_read n = cond (ltb most_age n) (Err AgeOver) (Ok n)
 abbrev pub listed : List ℕ → Call
 listed l =
     let kind = get_or l 0 0 in
-    cond (eqb kind 0) (Transfer (transfer_in l)) (cond (eqb kind 4) (Lift (lift_in l)) (cond (eqb kind 5) (Tip (tip_in l)) (Report (report_in l))))
+    cond (eqb kind 0) (Transfer (transfer_in l))
+    (cond (eqb kind 4) (Lift (lift_in l)) (cond (eqb kind 5) (Tip (tip_in l)) (cond (eqb kind 6) (Setting (setting_in l)) (Report (report_in l)))))
 
 -- the same, where it has no age that is off
 unfoldable pub call_read : List ℕ → Result Call Refusal
@@ -30,4 +31,5 @@ abbrev pub called : Call → List ℕ → Calls.Call
 called (Transfer x) room = post x
 called (Lift x) room = lift x
 called (Tip y) room = tip y
+called (Setting s) room = set_rule s
 called (Report q) room = ask q room

@@ -9,8 +9,8 @@ ghost use Rattle.book.specs.Head.{open_checks};
 ghost use Rattle.journal.specs.Carried.{age_off, Makes, MakesAll, CarriesOut};
 ghost use Rattle.journal.specs.Reading.{age_read, call_read, called};
 
-use book::{Head, Lift, Reply, Report, Tip, Transfer};
-use ledger::opening;
+use book::{Head, Lift, Reply, Report, Setting, Tip, Transfer};
+use ledger::{opening, rules};
 use refusal::Refusal;
 
 // A call is six numbers: its kind and its arguments.
@@ -27,12 +27,15 @@ const LIFT: u32 = 4;
 
 const TIP: u32 = 5;
 
+const SETTING: u32 = 6;
+
 // A call of a list.
 #[derive(Clone, Copy, Debug, PartialEq, Eq)]
 enum Call {
     Transfer(Transfer),
     Lift(Lift),
     Tip(Tip),
+    Setting(Setting),
     Report(Report),
 }
 
@@ -66,6 +69,7 @@ fn read_call(six: &[u32; CALL_SIZE]) -> Result<Call, Refusal>
             destination,
             minute,
         }),
+        [SETTING, vessel, rule, ..] => Call::Setting(Setting { vessel, rule }),
         [HELD, vessel, ..] => Call::Report(Report::Held(vessel)),
         [SPREAD, origin, from, to, ..] => Call::Report(Report::Spread(origin, from, to)),
         _ => Call::Report(Report::Whole), // 3, and every other number
@@ -80,6 +84,7 @@ fn make(head: Head, table: &mut [u32], call: Call, room: &mut [u32]) -> Reply
         Call::Transfer(x) => posting::transfer(head, table, x).into(),
         Call::Lift(x) => posting::lift(head, table, x).into(),
         Call::Tip(y) => posting::tip(head, table, y),
+        Call::Setting(s) => rules::set_rule(head, table, s),
         Call::Report(asked) => reports::report(head, table, asked, room),
     }
 }
@@ -129,7 +134,7 @@ fn call_all(
 
 // Opens a book and carries out the calls, as many as there are numbers and room for answers. A list with an age that is none is refused
 // before any of its calls is made.
-#[tactic(auto, using(crate::proofs::Carrying::carry_ready, crate::proofs::Carrying::carry_done))]
+#[tactic(auto, using(crate::proofs::Carrying::carry_few, crate::proofs::Carrying::carry_ready, crate::proofs::Carrying::carry_done))]
 pub fn carry_out(
     rule: u32,
     vessels: u32,

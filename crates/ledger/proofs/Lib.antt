@@ -1,1 +1,2 @@
 pub mod Drained
+pub mod Ruled

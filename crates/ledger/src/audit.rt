@@ -1,13 +1,14 @@
 // Whether a book adds up.
 ghost use Rattle.std.specs.Prelude.{◌≡◌, ◌≤◌};
-ghost use Rattle.book.specs.Head.{most_vessels, is_holder, all_of, lot_fits, fits, all_zero, balanced, adds_up, Sized};
+ghost use Rattle.book.specs.Head.{most_vessels, is_holder, all_of, lot_fits, fits, all_zero, known_rule, rules_fit, balanced, adds_up, Sized};
+ghost use Rattle.std.specs.List.{list_all};
 ghost use Rattle.refusal.specs.Numbers.{first};
 ghost use Rattle.refusal.specs.Refusals.{outcome_number};
 ghost use Rattle.book.specs.Memory.{book_checks};
 ghost use Rattle.ledger.specs.Audit.{covers, drained};
 
-use super::opening;
-use book::{BALANCES, HOLDERS, Head, SCALE};
+use super::opening::{self, LAST_RULE};
+use book::{HOLDERS, Head, MOST_VESSELS, SCALE};
 use refusal::Refusal;
 use table::Piece;
 use table::reading::Pieces;
@@ -81,13 +82,30 @@ fn is_balanced(head: Head, pieces: &Pieces) -> bool
     ensures { result ≡ all_of (balanced head pieces.now) }
 {
     let mut balances = [0u32; HOLDERS];
-    balances[..BALANCES].copy_from_slice(&head.balances);
-    balances[BALANCES] = head.scale;
+    balances[..MOST_VESSELS].copy_from_slice(&head.balances);
+    balances[MOST_VESSELS] = head.scale;
     let limits = Limits {
         vessels: head.vessels,
         last: head.last,
     };
     limits.drained(pieces, balances)
+}
+
+// Whether all of these rules are known.
+fn all_known(rules: &[u32]) -> bool
+    ensures { result ≡ list_all known_rule rules.now }
+{
+    rules.iter().all(|rule| *rule <= LAST_RULE)
+}
+
+// Whether each vessel's rule is known, and those from V on are 0.
+#[tactic(auto, unfolding(book::specs::Head::rules_fit))]
+fn rules_fit(head: Head) -> bool
+    requires { head.vessels ≤ most_vessels }
+    ensures { result ≡ rules_fit head.vessels head.rules }
+{
+    let n = head.vessels as usize;
+    all_known(&head.rules[..n]) && all_zero(&head.rules[n..])
 }
 
 // Whether the book adds up: one pass over the pieces.
@@ -99,7 +117,7 @@ pub fn adds_up(head: Head, table: &[u32]) -> bool
     if opening::check_opening(head.rule, head.vessels).is_err() || table::places(table) < n {
         return false;
     }
-    head.pieces <= head.accepted && is_balanced(head, &Pieces::of(table, n))
+    head.pieces <= head.accepted && rules_fit(head) && is_balanced(head, &Pieces::of(table, n))
 }
 
 // Checks 1 and 4, which every call makes first.

@@ -1,20 +1,34 @@
 // Opening a book.
-ghost use Rattle.std.specs.Prelude.{◌≡◌};
+ghost use Rattle.std.specs.Prelude.{◌≡◌, ◌≤◌};
 ghost use Rattle.refusal.specs.Numbers.{first};
 ghost use Rattle.refusal.specs.Refusals.{outcome_number};
-ghost use Rattle.book.specs.Head.{empty_head, not_opened, open_checks, opening};
+ghost use Rattle.book.specs.Head.{most_vessels, given_rules, empty_head, not_opened, open_checks, opening};
 
-use book::{BALANCES, Head, Reply};
+use book::{Head, MOST_VESSELS, Reply};
 use refusal::Refusal;
 
 // The rules are numbered from 0 to this.
 pub const LAST_RULE: u32 = 3;
 
 // A book has at most this many vessels.
-pub const VESSELS: u32 = BALANCES as u32;
+pub const VESSELS: u32 = MOST_VESSELS as u32;
 
-// A head with this rule and this many vessels, and all other numbers 0.
+// The rules of a fresh book's vessels, and 0 from V on.
+#[tactic(auto, using(book::proofs::RuleLaws::given_written))]
+fn given_rules(rule: u32, vessels: u32) -> [u32; MOST_VESSELS]
+    requires { vessels ≤ most_vessels }
+    ensures { result ≡ given_rules rule vessels }
+{
+    let mut rules = [0u32; MOST_VESSELS];
+    for v in 0..vessels as usize {
+        rules[v] = rule;
+    }
+    rules
+}
+
+// A head with this rule, for the book and each of this many vessels, and all other numbers 0.
 pub fn empty_head(rule: u32, vessels: u32) -> Head
+    requires { vessels ≤ most_vessels }
     ensures { result ≡ empty_head rule vessels }
 {
     Head {
@@ -23,8 +37,9 @@ pub fn empty_head(rule: u32, vessels: u32) -> Head
         pieces: 0,
         last: 0,
         accepted: 0,
-        balances: [0u32; BALANCES],
+        balances: [0u32; MOST_VESSELS],
         scale: 0,
+        rules: given_rules(rule, vessels),
     }
 }
 

@@ -17,6 +17,7 @@ use book::{Head, Reply, Transfer, Transferred};
 use run::Ran;
 use sheet::answer::{Movement, Reading};
 
+mod rules; // rules.rt: the rule of a vessel
 mod scale; // scale.rt: lift and tip
 
 // Rule and count of vessels are two numbers in C, and stay two down to `ledger::opening`.

@@ -16,13 +16,12 @@ use Rattle.book.specs.Memory as Memory
 use Rattle.carrying.specs.declared.Carried.{Carried}
 use Rattle.carrying.specs.Carrying.{Audited, Carries}
 
--- A posting: its checks after 1 and 4, the motion that it is on a book with so much weight on its scale, and the rule by which its pieces are picked,
--- of a book under a rule.
-module _ (checks : Standing → List Check) (motion : ℕ → Motion) (rule : ℕ → ℕ) where
+-- A posting: its checks after 1 and 4, and the motion that it is on a book with so much weight on its scale.
+module _ (checks : Standing → List Check) (motion : ℕ → Motion) where
   -- On a book known to add up: it is refused by its first check that applies, and nothing is written, or its motion is carried.
   pub record PostsKnown (h : Head) (t t' : List ℕ) (r : Result Carried Refusal) : Type 0 where
     pub refused : first (checks (of_head h)) ≢ 0 → (outcome_number r ≡ first (checks (of_head h))) × (t' ≡ t)
-    pub carried : first (checks (of_head h)) ≡ 0 → Carries h (rule h.rule) (motion h.scale) t t' r
+    pub carried : first (checks (of_head h)) ≡ 0 → Carries h (motion h.scale) t t' r
 
   -- On any book: 1 and 4 come first.
   pub record PostsAny (h : Head) (t t' : List ℕ) (r : Result Carried Refusal) : Type 0 where

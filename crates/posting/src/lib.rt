@@ -20,15 +20,12 @@ use refusal::Refusal;
 mod scale; // scale.rt: lift and tip as postings
 mod transfers; // transfers.rt: a transfer as a posting
 
-// What can be posted to a book: its checks after 1 and 4, the motion that it is, and the rule by which its pieces are picked.
+// What can be posted to a book: its checks after 1 and 4, and the motion that it is.
 trait Posting: Copy {
     ghost checks: { Self → Standing → List Check };
 
     // on a book with so much weight on its scale
     ghost motion: { Self → ℕ → Motion };
-
-    // of a book under a rule
-    ghost rule: { Self → ℕ → ℕ };
 
     // The first of its checks that applies. That the head has vessels a book can have is asked here and below it: check 4 has told so of the head that
     // C lends by value, of which a type would have to be made at each call.
@@ -42,9 +39,6 @@ trait Posting: Copy {
         requires passed { first (checks self (of_head head)) ≡ 0 }
         ensures motion { result ≡ motion self head.scale }
         ensures carriable { Carriable head result };
-
-    fn rule(self, head: Head) -> u32
-        ensures { result ≡ rule self head.rule };
 }
 
 // A posting on a book that is known to add up, with memory lent to work in: checks 1 and 4 are the caller's.
@@ -56,16 +50,16 @@ fn post_known<P: Posting>(
     work: &mut Workspace,
 ) -> Result<Carried, Refusal>
     requires { Audited head table.old }
-    ensures { PostsKnown (P.checks p) (P.motion p) (P.rule p) head table.old table.new result }
+    ensures { PostsKnown (P.checks p) (P.motion p) head table.old table.new result }
 {
     p.check(head)?;
-    carrying::carry(head, table, p.rule(head), p.motion(head), work)
+    carrying::carry(head, table, p.motion(head), work)
 }
 
 // A posting on any book.
 #[tactic(auto, using(carrying::proofs::Next::audited))]
 fn post<P: Posting>(head: Head, table: &mut [u32], p: P) -> Result<Carried, Refusal>
-    ensures { PostsAny (P.checks p) (P.motion p) (P.rule p) head table.old table.new result }
+    ensures { PostsAny (P.checks p) (P.motion p) head table.old table.new result }
 {
     audit::check_book(head, table)?;
     post_known(head, table, p, &mut Workspace::new())

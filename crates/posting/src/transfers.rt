@@ -11,8 +11,6 @@ impl Posting for Transfer {
 
     ghost motion = { λ x _. motion_of x };
 
-    ghost rule = { λ _ rule. rule };
-
     #[tactic(auto, unfolding(book::specs::Transfer::transfer_checks))]
     fn check(self, head: Head) -> Result<(), Refusal> {
         if head.vessels <= self.source || head.vessels <= self.destination {
@@ -43,9 +41,5 @@ impl Posting for Transfer {
     #[tactic(auto, using(std::proofs::lemmas::Bool::Decides::nat_tests), unfolding(book::specs::Transfer::transfer_checks))]
     fn motion(self, _head: Head) -> Motion {
         carrying::motion_of(self)
-    }
-
-    fn rule(self, head: Head) -> u32 {
-        head.rule
     }
 }

@@ -6,7 +6,7 @@ use Rattle.refusal.proofs.Numbers.{not_zero, first_zero}
 use Rattle.book.specs.declared.Head.{Head}
 use Rattle.book.specs.declared.Transfer.{Transfer}
 use Rattle.book.specs.declared.Transferred.{Transferred}
-use Rattle.book.specs.Head.{empty_head, open_checks, opening}
+use Rattle.book.specs.Head.{most_vessels, empty_head, open_checks, opening}
 use Rattle.book.specs.Transfer.{transfer_of}
 use Rattle.book.specs.Calls.{post, even_of, meaning}
 use Rattle.book.specs.Memory.{Outcome, outcome, call_on}
@@ -16,6 +16,7 @@ use Rattle.book.proofs.Known.{known_up}
 use Rattle.carrying.specs.Carrying.{Audited}
 use Rattle.carrying.specs.declared.Carried.{Carried}
 use Rattle.posting.specs.Posting.{Posts, refused_with, transferred}
+use Rattle.book.proofs.HeadLaws.{openable}
 use Rattle.book.proofs.After.{known_after, length_after, fresh_known}
 use Rattle.run.specs.declared.Ran.{Ran}
 use Rattle.sheet.specs.Answers.{header_numbers}
@@ -155,7 +156,7 @@ module _ (s t : List ℕ) where
       go zero nz = absurd (nz refl)
       go (suc n) nz = record { answer_is = refl; table_is = refl }
 
-  module _ (known : List ℕ) (e : (known ≡ s) × (run_number s t ≡ 0)) (header : Header) (told : header ≡ header_numbers known) (fresh : Head) (ef : fresh ≡ empty_head header.rule header.vessels) where
+  module _ (known : List ℕ) (e : (known ≡ s) × (run_number s t ≡ 0)) (header : Header) (told : header ≡ header_numbers known) where
     reads : read_number s ≡ 0
     unfolding run_number
     reads = first_zero (read_number s) _ e.1
@@ -168,14 +169,18 @@ module _ (s t : List ℕ) where
         go true q z = absurd (omega (arith, z))
         go false q z = ltb-false (length t) 4 q
 
-    is_fresh : fresh ≡ empty_head (rule_of s) (vessels_of s)
-    is_fresh = ef ∙ rw (told, e.0)
+    pub few_vessels : header.vessels ≤ most_vessels
+    few_vessels = rw (told, e.0) (openable (rule_of s) (vessels_of s) (opens_well s reads)).few_vessels
 
-    pub run_ready : Audited fresh t
-    run_ready =
-        let k = fresh_known (rule_of s) (vessels_of s) t (opens_well s reads) in
-        rw is_fresh (record { long = long; book_adds_up = k.adds; sized = k.sized })
+    module _ (fresh : Head) (ef : fresh ≡ empty_head header.rule header.vessels) where
+      is_fresh : fresh ≡ empty_head (rule_of s) (vessels_of s)
+      is_fresh = ef ∙ rw (told, e.0)
 
-    pub run_whole : (z : Ran) (t' : List ℕ) → Gives (run_from 0 0 fresh t (transfers_of known)) t' z → Gives (running s t) t' z
-    unfolding running
-    run_whole z t' p = rw (e.1, fresh_opened (rule_of s) (vessels_of s) (opens_well s reads)) (rw (is_fresh, e.0) at p)
+      pub run_ready : Audited fresh t
+      run_ready =
+          let k = fresh_known (rule_of s) (vessels_of s) t (opens_well s reads) in
+          rw is_fresh (record { long = long; book_adds_up = k.adds; sized = k.sized })
+
+      pub run_whole : (z : Ran) (t' : List ℕ) → Gives (run_from 0 0 fresh t (transfers_of known)) t' z → Gives (running s t) t' z
+      unfolding running
+      run_whole z t' p = rw (e.1, fresh_opened (rule_of s) (vessels_of s) (opens_well s reads)) (rw (is_fresh, e.0) at p)

@@ -8,4 +8,4 @@ move_pieces-requires c = search (rules, move_ready)
 
 pub next_head-requires : goal.next_head-requires
 next_head-requires c =
-    move_countable _ _ c.requires.0 _ _ c.requires.1 _ c.places-places.ensures _ _ c.move_pieces.ensures _ _ _ c.ok_or.ensures.value c.in_ok-moved.was
+    move_countable _ _ c.requires.0 _ c.requires.1 _ c.places-places.ensures _ c.rule_at-rule.ensures _ _ c.move_pieces.ensures _ _ _ c.ok_or.ensures.value c.in_ok-moved.was

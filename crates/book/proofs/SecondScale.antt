@@ -2,8 +2,8 @@
 -- scale, and under any number for the second one that is no vessel's and holds nothing. It is refused where one of the two would be, and with the number
 -- of its own list: where the lift is accepted, with that of the tip, or with 6 where it goes back to its source; where the lift is refused, with that
 -- of the lift, if nothing is amiss with the destination.
--- The idea: the same pieces are picked, whoever they are handed to. What was lifted lies last, in picked order, and nothing else is on that scale. So the
--- tip sweeps just that, and hands it on as if it had been handed there at once.
+-- The idea: the same pieces are picked, by the source's rule, whoever they are handed to. What was lifted lies last, in picked order, and nothing else is
+-- on that scale, which has no rule. So the tip sweeps just that, and hands it on as if it had been handed there at once.
 -- Assumes nothing.
 use Rattle.std.proofs.Common.{◌≡◌, refl, sym, ap, ◌∙◌, ◌≢◌, List, [], ◌∷◌, ◌++◌, ℕ, ◌+◌, ◌*◌, ◌≤◌, ◌<◌, add-zero, arith, leb, ltb, length, drop, drop_at}
 use Rattle.std.proofs.lemmas.Bool.Decides.{nat_tests}
@@ -17,11 +17,12 @@ use Rattle.taking.proofs.Handed.{handed_all}
 use Rattle.taking.proofs.Sweeping.{none_held, sweeps, passed_on}
 use Rattle.refusal.specs.Numbers.{TOP, ◌if◌, first}
 use Rattle.book.specs.declared.Transfer.{Transfer}
-use Rattle.book.specs.Head.{Book}
+use Rattle.book.specs.Head.{Book, as_they_lie, rule_at}
 use Rattle.book.specs.Motion.{of_book, takes, pieces_after}
 use Rattle.book.specs.Transfer.{transfer_checks, motion_of}
-use Rattle.book.specs.Scale.{lift_part, tip_part, lift_checks, tip_checks, lift_motion, as_they_lie}
+use Rattle.book.specs.Scale.{lift_part, tip_part, lift_checks, tip_checks, lift_motion}
 use Rattle.book.specs.Calls.{post, lifting, tipping, tip_on, Meaning, meaning}
+use Rattle.book.proofs.RuleLaws.{rule_beyond}
 use Rattle.book.proofs.Checks.{fit, LiftFit, lift_fit}
 use Rattle.book.proofs.Sound.{own, SoundBook, takes_law, after_length, held_after, tip_length, accepted_own}
 
@@ -60,18 +61,18 @@ module _ (scale places : ℕ) (b : Book) (x : Transfer) where
     pub lift_number : x.destination < b.vessels → x.source ≢ x.destination → held x.destination b.pieces + x.weight ≤ TOP → own places b whole ≡ own places b up
 
   -- The same pieces are picked, whoever they are handed to.
-  same_taken : takes b b.rule (lift_motion scale (lift_part x)) ≡ takes b b.rule (motion_of x)
+  same_taken : takes b (lift_motion scale (lift_part x)) ≡ takes b (motion_of x)
   unfolding takes taken
   same_taken = refl
 
-  same_length : length lifted.pieces ≡ length (pieces_after b b.rule (motion_of x))
-  same_length = after_length b b.rule (lift_motion scale (lift_part x)) ∙ rw same_taken (sym (after_length b b.rule (motion_of x)))
+  same_length : length lifted.pieces ≡ length (pieces_after b (motion_of x))
+  same_length = after_length b (lift_motion scale (lift_part x)) ∙ rw same_taken (sym (after_length b (motion_of x)))
 
   same_said : (up.answer b ≡ whole.answer b) × (up.even b ≡ whole.even b)
   same_said = rw same_taken (refl, refl)
 
   -- what a transfer and a lift pass where they are accepted
-  post_passed : own places b whole ≡ 0 → (first (transfer_checks (of_book b) x) ≡ 0) × (length (pieces_after b b.rule (motion_of x)) ≤ places)
+  post_passed : own places b whole ≡ 0 → (first (transfer_checks (of_book b) x) ≡ 0) × (length (pieces_after b (motion_of x)) ≤ places)
   unfolding transfer_checks
   post_passed e = accepted_own places b (motion_of x) (transfer_checks (of_book b) x) tt e
 
@@ -79,7 +80,7 @@ module _ (scale places : ℕ) (b : Book) (x : Transfer) where
   unfolding lift_checks
   lift_passed e = accepted_own places b (lift_motion scale (lift_part x)) (lift_checks scale (of_book b) (lift_part x)) tt e
 
-  module _ (weighty : All (λ p. 1 ≤ p.weight) b.pieces) (beyond : b.vessels ≤ scale) (bare : held scale b.pieces ≡ 0) where
+  module _ (weighty : All (λ p. 1 ≤ p.weight) b.pieces) (beyond : b.vessels ≤ scale) (bare : held scale b.pieces ≡ 0) (ruleless : rule_at b.rules scale ≡ as_they_lie) where
     -- where the lift passes its checks
     module _ (clear : first (lift_checks scale (of_book b) (lift_part x)) ≡ 0) where
       fits : LiftFit scale (of_book b) (lift_part x)
@@ -87,27 +88,27 @@ module _ (scale places : ℕ) (b : Book) (x : Transfer) where
 
       -- all that was lifted is on the scale, and another vessel holds what it held
       on_scale : held scale lifted.pieces ≡ x.weight
-      on_scale = grind (arith, nat_tests, held_after b b.rule (lift_motion scale (lift_part x)) scale, fits.source_in)
+      on_scale = grind (arith, nat_tests, held_after b (lift_motion scale (lift_part x)) scale, fits.source_in)
 
       in_others : x.source ≢ x.destination → x.destination < b.vessels → held x.destination lifted.pieces ≡ held x.destination b.pieces
-      in_others apart inside = grind (arith, nat_tests, held_after b b.rule (lift_motion scale (lift_part x)) x.destination)
+      in_others apart inside = grind (arith, nat_tests, held_after b (lift_motion scale (lift_part x)) x.destination)
 
-      same_pieces : pieces_after lifted as_they_lie (tip_on scale lifted (tip_part x)) ≡ pieces_after b b.rule (motion_of x)
+      same_pieces : pieces_after lifted (tip_on scale lifted (tip_part x)) ≡ pieces_after b (motion_of x)
       unfolding takes taken
       same_pieces =
           let lift = lift_motion scale (lift_part x) in
           let tip = tip_on scale lifted (tip_part x) in
-          let fair = (takes_law b b.rule lift).fair in
+          let fair = (takes_law b lift).fair in
           let still = handed_all lift.moves b.pieces _ fair (λ p. 1 ≤ p.weight) (λ p. 1 ≤ p.weight) (λ p w u q. u) (λ p q. q) (λ p e q. q) (λ u. u) weighty in
           let rest = (fair.keeps (λ p. p.holder ≢ scale) (λ p w u q. q) (none_held scale b.pieces weighty bare)).0 in
-          ap (handed tip.moves) (sweeps tip.moves lifted.pieces still refl) ∙ passed_on lift.moves tip.moves (motion_of x).moves (takes b b.rule lift) rest refl refl refl refl
+          ap (λ (rule : ℕ). handed tip.moves (taken rule tip.moves lifted.pieces)) ruleless ∙ ap (handed tip.moves) (sweeps tip.moves lifted.pieces still refl) ∙ passed_on lift.moves tip.moves (motion_of x).moves (takes b lift) rest refl refl refl refl
 
       next_is : down.next lifted ≡ whole.next b
-      next_is = λ i. record { rule = b.rule; vessels = b.vessels; last = x.minute; accepted = add-zero (b.accepted + 1) i; pieces = same_pieces i }
+      next_is = λ i. record { rule = b.rule; vessels = b.vessels; last = x.minute; accepted = add-zero (b.accepted + 1) i; rules = b.rules; pieces = same_pieces i }
 
       table_is : (t : List ℕ) → down.table lifted (up.table b t) ≡ whole.table b t
       table_is t =
-          lay_again lifted.pieces (pieces_after lifted as_they_lie (tip_on scale lifted (tip_part x))) t (tip_length scale lifted (tip_part x))
+          lay_again lifted.pieces (pieces_after lifted (tip_on scale lifted (tip_part x))) t (tip_length scale lifted (tip_part x))
           ∙ ap (λ (ps : List Piece). lay ps t) same_pieces
 
       -- the tip's number: what was lifted is there and no time has passed, so that the destination alone decides; and so it is with the transfer's
@@ -150,4 +151,4 @@ module _ (scale places : ℕ) (b : Book) (x : Transfer) where
 
 -- THE THEOREM, on every sound book, loaded or not, and every number for the scale.
 pub second_scale : (scale places : ℕ) (b : Book) → SoundBook places b → b.vessels ≤ scale → held scale b.pieces ≡ 0 → (x : Transfer) → Divides scale places b x
-second_scale scale places b o beyond bare x = divides scale places b x (all_map (λ p f. f.weighty) o.sound) beyond bare
+second_scale scale places b o beyond bare x = divides scale places b x (all_map (λ p f. f.weighty) o.sound) beyond bare (rule_beyond b.vessels scale b.rules o.rules_known beyond)

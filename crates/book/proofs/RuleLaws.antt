@@ -1,0 +1,54 @@
+-- Laws of the rules that vessels have: those given at opening fit, and each vessel has the book's; rules that fit still do after one is set; and from V on
+-- they are rule 0, which is how the scale's pieces are picked, so that what is no vessel has no rule of its own.
+-- Assumes nothing.
+use Rattle.std.proofs.Common.{◌≡◌, refl, ◌≢◌, true, List, [], ◌∷◌, ◌++◌, ℕ, zero, suc, ◌≤◌, ◌<◌, arith, length, get_or, get_or-set_same, get_or-set_other, set, drop, replicate}
+use Rattle.std.proofs.lemmas.Bool.Decides.{nat_tests}
+use Rattle.std.proofs.lemmas.List.{drop-replicate, get_or-replicate, length-replicate}
+use lib.ListN.{get_or-append}
+use Rattle.book.specs.Head.{last_rule, most_vessels, as_they_lie, rule_at, all_zero, rules_fit, given_rules}
+
+zeros : (n : ℕ) → all_zero (replicate n 0) ≡ true
+unfolding all_zero
+zeros zero = refl
+zeros (suc n) = zeros n
+
+given_before : (rule size n : ℕ) → rule ≤ last_rule → rules_fit size (replicate size rule ++ replicate n 0) ≡ true
+unfolding rules_fit
+given_before rule zero n known = zeros n
+given_before rule (suc size) n known = grind (arith, nat_tests, given_before rule size n known)
+
+-- as the code writes them: over zeros
+pub given_written : (rule size : ℕ) → replicate size rule ++ drop size (replicate most_vessels 0) ≡ given_rules rule size
+given_written rule size = rw drop-replicate
+
+pub given_fit : (rule size : ℕ) → rule ≤ last_rule → rules_fit size (given_rules rule size) ≡ true
+given_fit rule size known = given_before rule size _ known
+
+pub given_at : (rule size v : ℕ) → size ≤ most_vessels → v < size → rule_at (given_rules rule size) v ≡ rule
+given_at rule size v few inside = grind (arith, nat_tests, get_or-append, get_or-replicate size v rule 0, length-replicate size rule)
+
+pub set_fit : (size v rule : ℕ) (rules : List ℕ) → v < size → rule ≤ last_rule → rules_fit size rules ≡ true → rules_fit size (set rules v rule) ≡ true
+unfolding rules_fit
+set_fit size v rule [] inside known e = e
+set_fit zero v rule (x ∷ rules) inside known e = absurd (omega arith)
+set_fit (suc size) zero rule (x ∷ rules) inside known e = grind (arith, nat_tests)
+set_fit (suc size) (suc v) rule (x ∷ rules) inside known e = grind (arith, nat_tests, set_fit size v rule rules)
+
+-- the vessel has the rule, and any other holder that which it had
+pub set_at : (v rule : ℕ) (rules : List ℕ) → v < most_vessels → length rules ≡ most_vessels → rule_at (set rules v rule) v ≡ rule
+set_at v rule rules inside long = grind (arith, nat_tests, get_or-set_same rules v rule 0)
+
+pub set_others : (v rule w : ℕ) (rules : List ℕ) → w ≢ v → rule_at (set rules v rule) w ≡ rule_at rules w
+set_others v rule w rules apart = grind (arith, nat_tests, get_or-set_other rules v w rule 0)
+
+zeros_from : (size v : ℕ) (rules : List ℕ) → all_zero (drop size rules) ≡ true → size ≤ v → get_or rules v 0 ≡ 0
+unfolding all_zero
+zeros_from size v [] e past = refl
+zeros_from zero zero (x ∷ rules) e past = grind (arith, nat_tests)
+zeros_from zero (suc v) (x ∷ rules) e past = grind (arith, nat_tests, zeros_from zero v rules)
+zeros_from (suc size) zero (x ∷ rules) e past = absurd (omega arith)
+zeros_from (suc size) (suc v) (x ∷ rules) e past = zeros_from size v rules e (omega arith)
+
+pub rule_beyond : (size v : ℕ) (rules : List ℕ) → rules_fit size rules ≡ true → size ≤ v → rule_at rules v ≡ as_they_lie
+unfolding rules_fit
+rule_beyond size v rules e past = grind (arith, nat_tests, zeros_from size v rules)

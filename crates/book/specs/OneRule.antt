@@ -1,0 +1,61 @@
+-- A book as it was while it had one rule: every pick from a vessel went by the rule of the book, and a book added up whatever the numbers are that are
+-- its vessels' rules now. "A book whose rules were never set" is this one: `never_set` (proofs/OneRule.antt).
+-- Definitions only. Assumes nothing.
+use Rattle.std.specs.Prelude.{not, List, [], ◌∷◌, ◌++◌, ℕ, ◌+◌, ltb, length}
+use Rattle.table.specs.declared.Piece.{Piece}
+use Rattle.table.specs.Table.{pieces_of, lay, places_of}
+use Rattle.taking.specs.declared.Move.{Move}
+use Rattle.taking.specs.Taking.{Taken, taken, handed}
+use Rattle.refusal.specs.Numbers.{Check, ◌if◌, first}
+use Rattle.book.specs.declared.Head.{Head}
+use Rattle.book.specs.declared.Motion.{Motion}
+use Rattle.book.specs.Head.{Book, the_scale, book_of, all_of, balanced, count_tests}
+use Rattle.book.specs.Motion.{of_book}
+use Rattle.book.specs.Transfer.{transfer_checks, motion_of}
+use Rattle.book.specs.Scale.{lift_checks, lift_motion}
+use Rattle.book.specs.Calls.{Call, post, lift, tip, set_rule, ask, answer_of, even_of, Meaning, meaning}
+use Rattle.book.specs.Memory.{Outcome, outcome}
+use Rattle.book.specs.Lists.{Journal, noted}
+
+abbrev pub former_takes : Book → Move → Taken
+former_takes b x = taken b.rule x b.pieces
+
+abbrev pub former_pieces : Book → Move → List Piece
+former_pieces b x = handed x (former_takes b x)
+
+-- what takes weight from a vessel, by the rule of the book
+abbrev pub former_taking : (Book → List Check) → Motion → Meaning
+former_taking checks m =
+    record {
+      checks = λ places b. checks b ++ (11 if ltb places (length (former_pieces b m.moves)) ∷ []);
+      answer = λ b. answer_of (former_takes b m.moves);
+      next = λ b. record { rule = b.rule; vessels = b.vessels; last = m.minute; accepted = b.accepted + m.counts; rules = b.rules; pieces = former_pieces b m.moves };
+      table = λ b. lay (former_pieces b m.moves);
+      room = λ b. [];
+      lent = [];
+      counts = 1;
+      even = λ b. even_of (answer_of (former_takes b m.moves));
+    }
+
+-- a call: what takes nothing from a vessel is as it was
+abbrev pub one_rule : Call → Meaning
+one_rule (post x) = former_taking (λ b. transfer_checks (of_book b) x) (motion_of x)
+one_rule (lift x) = former_taking (λ b. lift_checks the_scale (of_book b) x) (lift_motion the_scale x)
+one_rule (tip y) = meaning (tip y)
+one_rule (set_rule s) = meaning (set_rule s)
+one_rule (ask q room) = meaning (ask q room)
+
+-- checks 1 and 4, a call's number, and the call on a head and a table
+unfoldable pub one_rule_checks : Head → List ℕ → List Check
+one_rule_checks h t = 1 if ltb (length t) 4 ∷ 4 if not (all_of (count_tests h t ++ balanced h (pieces_of h.pieces t))) ∷ []
+
+unfoldable pub one_rule_number : Head → List ℕ → Call → ℕ
+one_rule_number h t c = first (one_rule_checks h t ++ (one_rule c).checks (places_of t) (book_of h t))
+
+unfoldable pub one_rule_on : Head → List ℕ → Call → Outcome
+one_rule_on h t c = outcome h t (one_rule c) (one_rule_number h t c)
+
+-- and a list of calls
+unfoldable pub one_rule_calls : Head → List ℕ → List Call → Journal
+one_rule_calls h t [] = record { log = []; head = h; table = t }
+one_rule_calls h t (c ∷ cs) = let o = one_rule_on h t c in noted c o (one_rule_calls o.head o.table cs)
