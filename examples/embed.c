@@ -1,6 +1,7 @@
 /* Keeps a book from C: the six movements of the published table under rule 2, a delivery of older flour,
- * and a weighing whose vessel is chosen afterwards, while another baker goes on; the pieces they leave,
- * and whose flour lies in vessel 0. Exits with 1 if anything differs from what was worked out by hand.
+ * a weighing whose vessel is chosen afterwards, while another baker goes on, and a vessel that gets a rule
+ * of its own; the pieces they leave, and whose flour lies in vessel 0. Exits with 1 if anything differs
+ * from what was worked out by hand.
  *
  *   gcc -std=c99 -Wall -Wextra -pedantic -Iinclude examples/embed.c \
  *       crates/lumchaki/out/liblumchaki.a -o /tmp/embed && /tmp/embed */
@@ -9,7 +10,7 @@
 #include <stdio.h>
 #include <string.h>
 
-enum { VESSELS = 3, PLACES = 16, MOVEMENTS = 7, PIECES = 6 };
+enum { VESSELS = 3, PLACES = 16, MOVEMENTS = 7, PIECES = 7 };
 
 /* Source, destination, minute, weight, age. The last one needs 3 grams more than vessel 1 has; they
  * were milled 7 minutes before, at minute 2. */
@@ -19,7 +20,7 @@ static const uint32_t movements[MOVEMENTS][5] = {
 };
 
 static const uint32_t expected_pieces[PIECES][4] = {
-    {0, 2, 3, 2}, {2, 1, 5, 3}, {0, 1, 2, 3}, {1, 1, 5, 1}, {1, 1, 1, 1}, {1, 1, 1, 2},
+    {0, 2, 3, 2}, {2, 1, 5, 3}, {0, 1, 2, 3}, {1, 1, 5, 1}, {1, 1, 1, 1}, {1, 1, 1, 1}, {2, 1, 1, 1},
 };
 
 static const uint32_t expected_held[VESSELS] = {0, 3, 2};
@@ -42,6 +43,20 @@ static uint32_t weigh(lumchaki_head *head, uint32_t *table) {
     tipped = lumchaki_tip(meanwhile.head, table, 4 * PLACES, 1, 10);
     *head = tipped.head;
     return tipped.number;
+}
+
+/* From now on vessel 1 gives first what it received last. A gram of it goes to vessel 2: of the tipped
+ * pieces the last one is split, where rule 2 would give the one before it. Gives the number of the first of
+ * the two calls that was refused. */
+static uint32_t give_last(lumchaki_head *head, uint32_t *table) {
+    lumchaki_rule_set set = lumchaki_set_rule(*head, table, 4 * PLACES, 1, LUMCHAKI_LAST_RECEIVED);
+    lumchaki_transferred given;
+    if (set.number != LUMCHAKI_ACCEPTED) {
+        return set.number;
+    }
+    given = lumchaki_transfer(set.head, table, 4 * PLACES, 1, 2, 10, 1, 0);
+    *head = given.head;
+    return given.number;
 }
 
 int main(void) {
@@ -71,6 +86,11 @@ int main(void) {
         return 1;
     }
 
+    if (give_last(&head, table) != LUMCHAKI_ACCEPTED) {
+        fputs("giving by another rule refused\n", stderr);
+        return 1;
+    }
+
     puts("holder origin birth weight");
     for (i = 0; i < head.pieces; i++) {
         const uint32_t *p = table + 4 * i;
@@ -89,11 +109,12 @@ int main(void) {
         fputs("that is not what was worked out\n", stderr);
         return 1;
     }
-    /* The clock does not run back, nothing is milled before minute 0, the scale was emptied, and a refusal
-     * changes nothing. */
+    /* The clock does not run back, nothing is milled before minute 0, the scale was emptied, there is no
+     * rule 4, and a refusal changes nothing. */
     if (lumchaki_transfer(head, table, 4 * PLACES, 2, 0, 9, 1, 0).number != LUMCHAKI_CLOCK_BACK ||
         lumchaki_transfer(head, table, 4 * PLACES, 2, 0, 10, 1, 11).number != LUMCHAKI_BEFORE_TIME ||
         lumchaki_tip(head, table, 4 * PLACES, 0, 10).number != LUMCHAKI_SCALE_BARE ||
+        lumchaki_set_rule(head, table, 4 * PLACES, 1, 4).number != LUMCHAKI_RULE_UNKNOWN ||
         memcmp(table, expected_pieces, sizeof expected_pieces) != 0) {
         fputs("what should be refused was not\n", stderr);
         return 1;

@@ -37,7 +37,7 @@ enum {
     LUMCHAKI_MOVEMENT_NUMBERS = 5 /* the numbers that a movement is written from */
 };
 
-/* Which pieces of a vessel go first. */
+/* The rule of a vessel: which of its pieces go first. */
 enum {
     LUMCHAKI_FIRST_RECEIVED = 0, /* earliest received first */
     LUMCHAKI_LAST_RECEIVED = 1,  /* latest received first */
@@ -73,15 +73,17 @@ enum {
     LUMCHAKI_SCALE_BARE = 23    /* "scale bare": a tip, while there is no weight on the scale */
 };
 
-/* The head of a book. A fresh one comes from lumchaki_open. */
+/* The head of a book. A fresh one comes from lumchaki_open. `rule` stays as the book was opened and picks
+ * nothing: what leaves a vessel is picked by the vessel's own rule, which lumchaki_set_rule sets. */
 typedef struct {
-    uint32_t rule;
+    uint32_t rule;     /* the rule that each vessel got at the opening */
     uint32_t vessels;  /* 1 to 64 */
     uint32_t pieces;   /* so many pieces lie in the table */
     uint32_t last;     /* the minute of the last accepted transfer, lift or tip */
     uint32_t accepted; /* how many transfers and lifts were accepted */
     uint32_t balances[LUMCHAKI_VESSELS]; /* grams in each vessel, 0 from `vessels` on */
     uint32_t scale;    /* grams on the scale */
+    uint32_t rules[LUMCHAKI_VESSELS]; /* the rule of each vessel, 0 from `vessels` on */
 } lumchaki_head;
 
 /* A piece is four numbers of the table: holder, origin, birth minute, weight in grams. The holder is a
@@ -106,6 +108,11 @@ typedef struct {
     uint32_t number;
     lumchaki_head head; /* the next head; the one given on a refusal */
 } lumchaki_tipped;
+
+typedef struct {
+    uint32_t number;
+    lumchaki_head head; /* the next head; the one given on a refusal */
+} lumchaki_rule_set;
 
 typedef struct {
     uint32_t number;
@@ -135,10 +142,17 @@ typedef struct {
     lumchaki_head head; /* after the last accepted movement; zeros if sheet or table was refused */
 } lumchaki_ran;
 
-/* Opens a book. Checks 2, 3. */
+/* Opens a book and gives every vessel its rule. Checks 2, 3. */
 lumchaki_opened lumchaki_open(uint32_t rule, uint32_t vessels);
 
-/* Transfers weight from source to destination at a minute. Pieces of the source are picked by the rule
+/* Sets the rule of a vessel, by which all later transfers and lifts pick from it. It may be set at any
+ * moment, also while the scale is loaded, which has no rule: a tip takes what lies there in its order. An
+ * accepted setting changes this one number of the head. It has no minute and counts as no transfer, and
+ * the table is only read. Checks 1, 4, 5, 2. */
+lumchaki_rule_set lumchaki_set_rule(lumchaki_head head, const uint32_t *table, size_t table_len,
+                                    uint32_t vessel, uint32_t rule);
+
+/* Transfers weight from source to destination at a minute. Pieces of the source are picked by its rule
  * until the weight is reached; what the source lacks is born there. What is born was milled `age`
  * minutes before: its birth minute is minute - age. Checks 1, 4, 5 to 8, 21, 9 to 11. */
 lumchaki_transferred lumchaki_transfer(lumchaki_head head, uint32_t *table, size_t table_len,
@@ -215,7 +229,7 @@ uint32_t lumchaki_write(uint32_t rule, uint32_t vessels, const uint8_t *names, s
 /* Runs a sheet on a table: checks as lumchaki_read, then 1, opens a book and transfers until a
  * movement is refused, with 6 to 8, 21, 9 or 11. A run that stops so keeps the movements before its
  * stop. Without movements the head is that of lumchaki_open and the table stays as it was. A sheet has
- * no lifts and tips: the scale stays bare. */
+ * one rule, which every vessel keeps, and no lifts and tips: the scale stays bare. */
 lumchaki_ran lumchaki_run(const uint8_t *sheet, size_t sheet_len, uint32_t *table, size_t table_len);
 
 #ifdef __cplusplus

@@ -69,6 +69,7 @@ fn book_of(random: &mut Random, rule: u32, pieces: usize, vessels: u32) -> Full 
         pieces: pieces as u32,
         last: DAY,
         accepted: pieces as u32,
+        rules: [rule; VESSELS],
         ..Head::ZERO
     };
     for place in table.chunks_exact_mut(4).take(pieces) {

@@ -1,7 +1,8 @@
 //! What the tests and the benchmarks ask of an implementation: every call, with its bare answer.
 
 use crate::{
-    Head, Lift, Movement, Opened, Ran, Reading, Reported, Tip, Tipped, Transfer, Transferred,
+    Head, Lift, Movement, Opened, Ran, Reading, Reported, RuleSet, Tip, Tipped, Transfer,
+    Transferred,
 };
 
 /// An implementation of the documents' calls. Answers and lent memory are compared number by number.
@@ -11,6 +12,9 @@ pub trait Engine: Sync {
 
     /// Opens a book.
     fn open(&self, rule: u32, vessels: u32) -> Opened;
+
+    /// Sets the rule of a vessel.
+    fn set_rule(&self, head: Head, table: &[u32], vessel: u32, rule: u32) -> RuleSet;
 
     /// Transfers weight from one vessel to another.
     fn transfer(&self, head: Head, table: &mut [u32], transfer: Transfer) -> Transferred;

@@ -11,7 +11,8 @@ mod refusal;
 pub use asked::{Lift, Tip, Transfer};
 pub use engine::Engine;
 pub use records::{
-    places, Head, Movement, Opened, Piece, Ran, Reading, Reported, Tipped, Transferred, MOVEMENTS,
-    MOVEMENT_BYTES, MOVEMENT_NUMBERS, NAME_BYTES, PLACES, SCALE, SHEET_HEADER, TOP, VESSELS,
+    places, Head, Movement, Opened, Piece, Ran, Reading, Reported, RuleSet, Tipped, Transferred,
+    MOVEMENTS, MOVEMENT_BYTES, MOVEMENT_NUMBERS, NAME_BYTES, PLACES, SCALE, SHEET_HEADER, TOP,
+    VESSELS,
 };
 pub use refusal::Refusal;

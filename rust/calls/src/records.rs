@@ -31,7 +31,7 @@ pub const MOVEMENT_NUMBERS: usize = 5;
 #[repr(C)]
 #[derive(Clone, Copy, Debug, PartialEq, Eq)]
 pub struct Head {
-    /// 0 earliest received first, 1 latest received first, 2 smallest birth minute, 3 largest.
+    /// The rule that each vessel got at the opening. It stays, and picks nothing.
     pub rule: u32,
     /// How many vessels there are, 1 to 64.
     pub vessels: u32,
@@ -45,6 +45,9 @@ pub struct Head {
     pub balances: [u32; VESSELS],
     /// The weight on the scale.
     pub scale: u32,
+    /// The rule of each vessel, by which its pieces are picked: 0 earliest received first, 1 latest
+    /// received first, 2 smallest birth minute, 3 largest. 0 from `vessels` on.
+    pub rules: [u32; VESSELS],
 }
 
 impl Head {
@@ -57,6 +60,7 @@ impl Head {
         accepted: 0,
         balances: [0; VESSELS],
         scale: 0,
+        rules: [0; VESSELS],
     };
 }
 
@@ -139,6 +143,16 @@ pub struct Tipped {
     pub head: Head,
 }
 
+/// The answer of setting a vessel's rule.
+#[repr(C)]
+#[derive(Clone, Copy, Debug, PartialEq, Eq)]
+pub struct RuleSet {
+    /// 0 or the refusal.
+    pub number: u32,
+    /// The next head, or the one given.
+    pub head: Head,
+}
+
 /// The answer of a report.
 #[repr(C)]
 #[derive(Clone, Copy, Debug, PartialEq, Eq)]
@@ -204,17 +218,20 @@ mod tests {
     /// behind them, and padding behind that.
     #[test]
     fn records_have_no_gaps() {
+        const HEAD: usize = 6 + 2 * VESSELS;
         let numbers = [
-            (size_of::<Head>(), 6 + VESSELS),
+            (size_of::<Head>(), HEAD),
             (offset_of!(Head, scale), 5 + VESSELS),
-            (size_of::<Opened>(), 7 + VESSELS),
-            (size_of::<Transferred>(), 10 + VESSELS),
-            (size_of::<Tipped>(), 7 + VESSELS),
-            (size_of::<Reported>(), 7 + VESSELS),
+            (offset_of!(Head, rules), 6 + VESSELS),
+            (size_of::<Opened>(), 1 + HEAD),
+            (size_of::<Transferred>(), 4 + HEAD),
+            (size_of::<Tipped>(), 1 + HEAD),
+            (size_of::<RuleSet>(), 1 + HEAD),
+            (size_of::<Reported>(), 1 + HEAD),
             (size_of::<Reading>(), 4),
             (offset_of!(Movement, age), 5),
             (size_of::<Movement>(), 6),
-            (size_of::<Ran>(), 9 + VESSELS),
+            (size_of::<Ran>(), 3 + HEAD),
         ];
         for (size, count) in numbers {
             assert_eq!(size, 4 * count);

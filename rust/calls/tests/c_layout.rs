@@ -1,6 +1,6 @@
 //! The records lie in C, by the header, as they lie here.
 
-use calls::{Head, Movement, Opened, Ran, Reading, Reported, Tipped, Transferred};
+use calls::{Head, Movement, Opened, Ran, Reading, Reported, RuleSet, Tipped, Transferred};
 use std::io::Write;
 use std::mem::{offset_of, size_of};
 use std::path::Path;
@@ -16,6 +16,7 @@ int main(void) {
     SIZE(lumchaki_head);
     FIELD(lumchaki_head, balances);
     FIELD(lumchaki_head, scale);
+    FIELD(lumchaki_head, rules);
     SIZE(lumchaki_opened);
     FIELD(lumchaki_opened, head);
     SIZE(lumchaki_transferred);
@@ -23,6 +24,8 @@ int main(void) {
     FIELD(lumchaki_transferred, born);
     SIZE(lumchaki_tipped);
     FIELD(lumchaki_tipped, head);
+    SIZE(lumchaki_rule_set);
+    FIELD(lumchaki_rule_set, head);
     SIZE(lumchaki_reported);
     FIELD(lumchaki_reported, head);
     SIZE(lumchaki_reading);
@@ -60,6 +63,7 @@ fn records_lie_as_in_c() {
         ("lumchaki_head", size_of::<Head>()),
         ("balances", offset_of!(Head, balances)),
         ("scale", offset_of!(Head, scale)),
+        ("rules", offset_of!(Head, rules)),
         ("lumchaki_opened", size_of::<Opened>()),
         ("head", offset_of!(Opened, head)),
         ("lumchaki_transferred", size_of::<Transferred>()),
@@ -67,6 +71,8 @@ fn records_lie_as_in_c() {
         ("born", offset_of!(Transferred, born)),
         ("lumchaki_tipped", size_of::<Tipped>()),
         ("head", offset_of!(Tipped, head)),
+        ("lumchaki_rule_set", size_of::<RuleSet>()),
+        ("head", offset_of!(RuleSet, head)),
         ("lumchaki_reported", size_of::<Reported>()),
         ("head", offset_of!(Reported, head)),
         ("lumchaki_reading", size_of::<Reading>()),

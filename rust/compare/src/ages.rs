@@ -27,12 +27,12 @@ pub struct Ages {
     pub at_minute: u64,
     /// Births of age 65,535.
     pub largest: u64,
-    /// Births under rules 2 and 3 before those of all pieces in the table.
+    /// Births in vessels of rules 2 and 3 before those of all pieces in the table.
     pub earliest: u64,
-    /// Births under rules 2 and 3 at that of a piece in the same vessel, received at an earlier
-    /// minute. The scale has no piece before a lift.
+    /// Births handed to vessels of rules 2 and 3 that hold one of that minute, received at an earlier
+    /// minute. The scale has no rule and no piece before a lift.
     pub equal: u64,
-    /// Picks under rules 2 and 3 from pieces whose births do not go up in order of receipt.
+    /// Picks by rules 2 and 3 from pieces whose births do not go up in order of receipt.
     pub behind: u64,
 }
 
@@ -64,7 +64,7 @@ impl Ages {
         if answer.number != 0 {
             return;
         }
-        let by_birth = head.rule >= 2;
+        let by_birth = |holder: u32| head.rules.get(holder as usize) >= Some(&2);
         let pieces = || Piece::all(head, table);
         let held = |vessel| move |p: &Piece| p.holder == vessel;
         if answer.born > 0 && age > 0 {
@@ -72,14 +72,14 @@ impl Ages {
             self.at_minute += u64::from(birth == 0);
             self.largest += u64::from(t.age == u16::MAX);
             let earliest = head.pieces > 0 && pieces().all(|p| birth < p.birth);
-            self.earliest += u64::from(by_birth && earliest);
+            self.earliest += u64::from(by_birth(t.source) && earliest);
             let mut there = pieces().filter(held(t.destination));
             let equal = t.minute > head.last && there.any(|p| p.birth == birth);
-            self.equal += u64::from(by_birth && equal);
+            self.equal += u64::from(by_birth(t.destination) && equal);
         }
         if answer.whole + answer.split > 0 {
             let births = pieces().filter(held(t.source)).map(|p| p.birth);
-            self.behind += u64::from(by_birth && !births.is_sorted());
+            self.behind += u64::from(by_birth(t.source) && !births.is_sorted());
         }
     }
 

@@ -1,11 +1,34 @@
 //! Books to compare on that add up.
 
 use crate::Random;
-use calls::{places, Head, Piece, SCALE, TOP};
+use calls::{places, Head, Piece, SCALE, TOP, VESSELS};
 
 /// Numbers to be overwritten: not zeros, so that what remains can be told.
 pub fn room(random: &mut Random, length: usize) -> Vec<u32> {
     (0..length).map(|_| random.any()).collect()
+}
+
+/// Any rule for each of so many vessels, and 0 behind them.
+pub fn mixed_rules(random: &mut Random, vessels: u32) -> [u32; VESSELS] {
+    let mut rules = [0; VESSELS];
+    rules[..vessels as usize].fill_with(|| random.below(4));
+    rules
+}
+
+/// The head of a book without pieces. In half of them each vessel has the book's rule, in the others any.
+fn bare_head(random: &mut Random, rule: u32) -> Head {
+    let vessels = random.one_of(&[1, 2, 2, 2, 3, 3, 3, 4, 4, 7, 63, 64]);
+    let mut rules = mixed_rules(random, vessels);
+    if random.once_in(2) {
+        rules[..vessels as usize].fill(rule);
+    }
+    Head {
+        rule,
+        vessels,
+        last: random.one_of(&[0, 3, 1000, 65_534, 65_535, TOP - 1, TOP]),
+        rules,
+        ..Head::ZERO
+    }
 }
 
 /// A book that adds up, on a table of this length. Its pieces are not what a run would leave: births
@@ -25,12 +48,7 @@ pub fn loaded_book(random: &mut Random, rule: u32, length: usize) -> (Head, Vec<
 fn filled(random: &mut Random, rule: u32, length: usize, loaded: bool) -> (Head, Vec<u32>) {
     let mut table = room(random, length);
     let places = places(&table) as u32;
-    let mut head = Head {
-        rule,
-        vessels: random.one_of(&[1, 2, 2, 2, 3, 3, 3, 4, 4, 7, 63, 64]),
-        last: random.one_of(&[0, 3, 1000, 65_534, 65_535, TOP - 1, TOP]),
-        ..Head::ZERO
-    };
+    let mut head = bare_head(random, rule);
     let some = random.below(places + 1);
     let count = random.one_of(&[places, places.saturating_sub(1), some]);
     let count = count.max(u32::from(loaded)).min(places) as usize;

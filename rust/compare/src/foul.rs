@@ -6,8 +6,10 @@ use crate::Random;
 use calls::{places, Head, SCALE, TOP, VESSELS};
 
 /// The clauses of "adds up", each with a way to break it alone.
-pub const FOUL_CLAUSES: [&str; 21] = [
+pub const FOUL_CLAUSES: [&str; 23] = [
     "rule",
+    "rule of a vessel",
+    "rule beyond the vessels",
     "no vessels",
     "too many vessels",
     "pieces above places",
@@ -35,7 +37,7 @@ pub const FOUL_CLAUSES: [&str; 21] = [
 pub fn foul_book(random: &mut Random, clause: &str, head: &mut Head, table: &mut [u32]) -> bool {
     let vessels = head.vessels;
     match clause {
-        "rule" => head.rule = near(random, &[4]).max(4),
+        rule if rule.starts_with("rule") => return foul_rule(random, rule, head),
         "no vessels" => {
             // A book without pieces: nothing else is off.
             *head = Head {
@@ -70,6 +72,23 @@ pub fn foul_book(random: &mut Random, clause: &str, head: &mut Head, table: &mut
         "pieces on a scale of 0" if head.scale > 0 => head.scale = 0,
         _ => return head.pieces > 0 && foul_piece(random, clause, head, table),
     }
+    true
+}
+
+/// Breaks a clause about a rule: the book's, or those below or from V on, there often the first or the last.
+fn foul_rule(random: &mut Random, clause: &str, head: &mut Head) -> bool {
+    let vessels = head.vessels as usize;
+    let (rules, known) = match clause {
+        "rule" => (std::slice::from_mut(&mut head.rule), 3),
+        "rule of a vessel" => (&mut head.rules[..vessels], 3),
+        _ => (&mut head.rules[vessels..], 0),
+    };
+    let Some(last) = rules.len().checked_sub(1) else {
+        return false;
+    };
+    let any = random.index(rules.len());
+    let at = random.one_of(&[0, last, any]);
+    rules[at] = near(random, &[known + 1, 4, 256, 1 << 16]).max(known + 1);
     true
 }
 

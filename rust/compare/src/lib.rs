@@ -13,11 +13,13 @@ mod sheets;
 mod tally;
 
 pub use ages::Ages;
-pub use books::{balance_of, book, held_by, loaded_book, room};
+pub use books::{balance_of, book, held_by, loaded_book, mixed_rules, room};
 pub use foul::{foul_book, FOUL_CLAUSES};
 #[cfg(feature = "library")]
 pub use library::Library;
-pub use make::{call_list, lift_for, near, report_room, tip_for, transfer_for, Call};
+pub use make::{
+    call_list, lift_for, near, report_room, tip_for, transfer_for, with_settings, Call,
+};
 pub use pair::{tipped, Pair};
 pub use random::Random;
 pub use sheets::{aged_day, damage, heaviest, names, sheet, working_day};

@@ -1,7 +1,7 @@
 //! The proved library behind the calls.
 
 use calls::{
-    Engine, Head, Lift, Movement, Opened, Ran, Reading, Reported, Tip, Tipped, Transfer,
+    Engine, Head, Lift, Movement, Opened, Ran, Reading, Reported, RuleSet, Tip, Tipped, Transfer,
     Transferred,
 };
 use lumchaki::raw;
@@ -16,6 +16,10 @@ impl Engine for Library {
 
     fn open(&self, rule: u32, vessels: u32) -> Opened {
         raw::open(rule, vessels)
+    }
+
+    fn set_rule(&self, head: Head, table: &[u32], vessel: u32, rule: u32) -> RuleSet {
+        raw::set_rule(head, table, vessel, rule)
     }
 
     fn transfer(&self, head: Head, table: &mut [u32], transfer: Transfer) -> Transferred {

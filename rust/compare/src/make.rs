@@ -13,6 +13,8 @@ pub enum Call {
     Lift(Lift),
     /// A tip.
     Tip(Tip),
+    /// A vessel's rule is set: vessel, rule.
+    SetRule(u32, u32),
     /// A held report: vessel, room.
     Held(u32, usize),
     /// A spread report: origin, span, room.
@@ -197,6 +199,31 @@ fn weighed_tip(random: &mut Random, book: &WeighBook) -> Tip {
         destination,
         minute: minute(random, book.last),
     }
+}
+
+/// The same list with settings of rules between its calls: often of the vessel that gives next, now and
+/// then of one that the book does not have, or to a rule that is none.
+pub fn with_settings(random: &mut Random, vessels: u32, list: &[Call]) -> Vec<Call> {
+    let seldom = random.one_of(&[1, 2, 6]);
+    let mut with = Vec::new();
+    for call in list {
+        if random.once_in(seldom) {
+            let set = match call {
+                Call::Move(t) if random.once_in(2) => t.source,
+                Call::Lift(l) if random.once_in(2) => l.source,
+                _ => vessel(random, vessels),
+            };
+            let unknown = random.once_in(20);
+            let rule = if unknown {
+                near(random, &[4])
+            } else {
+                random.below(4)
+            };
+            with.push(Call::SetRule(set, rule));
+        }
+        with.push(call.clone());
+    }
+    with
 }
 
 /// Turns a transfer to a vessel: from it or into it.

@@ -1,6 +1,7 @@
 //! Two implementations side by side: the calls on a book.
 
 mod reports;
+mod rules;
 mod scale;
 mod sheets;
 
@@ -8,6 +9,7 @@ pub use scale::tipped;
 
 use crate::{held_by, Ages, Tally};
 use calls::{places, Engine, Head, Opened, Refusal, Transfer, Transferred, SCALE};
+use rules::with_other_rules;
 use second::Second;
 use std::fmt::Debug;
 
@@ -35,7 +37,7 @@ where
 /// The answer of a transfer or lift at age 0, beside the one at its own age: they come to the same,
 /// but for 21 and the birth of what is born.
 fn beside_young(
-    before: &[u32],
+    (head, before): (Head, &[u32]),
     table: &[u32],
     t: Transfer,
     answer: &Transferred,
@@ -45,7 +47,7 @@ fn beside_young(
         return *answer;
     }
     let mut young_table = before.to_vec();
-    let young = call(&Second, &mut young_table, t.aged(0));
+    let young = call(&Second, head, &mut young_table, t.aged(0));
     assert_eq!(answer.number, Ages::number(t, young.number), "{t:?}");
     if answer.number != 0 {
         return young;
@@ -75,8 +77,8 @@ pub struct Pair {
     pub lift_ages: Ages,
 }
 
-/// A transfer or a lift by an engine on a table.
-type Moving<'c> = &'c dyn Fn(&dyn Engine, &mut [u32], Transfer) -> Transferred;
+/// A transfer or a lift by an engine on head and table.
+type Moving<'c> = &'c dyn Fn(&dyn Engine, Head, &mut [u32], Transfer) -> Transferred;
 
 impl Pair {
     /// The subject beside the second implementation.
@@ -115,7 +117,7 @@ impl Pair {
     /// A transfer. What is on the scale stays there as it was, in its order.
     pub fn transfer(&mut self, head: Head, table: &mut [u32], t: Transfer) -> Transferred {
         let load = held_by(&head, table, SCALE);
-        let answer = self.moving("transfer", head, table, t, &|engine, table, t| {
+        let answer = self.moving("transfer", head, table, t, &|engine, head, table, t| {
             engine.transfer(head, table, t)
         });
         assert_eq!(held_by(&answer.head, table, SCALE), load, "{head:?} {t:?}");
@@ -133,7 +135,7 @@ impl Pair {
     }
 
     /// A transfer or a lift, by the call that makes it. Beside the comparison: a refusal changes
-    /// nothing, and nothing is written behind the last piece.
+    /// nothing, nothing is written behind the last piece, and only the source's rule picks.
     fn moving(
         &mut self,
         name: &'static str,
@@ -143,9 +145,11 @@ impl Pair {
         call: Moving,
     ) -> Transferred {
         let before = table.to_vec();
-        let answer = guarded(table, 0xdead_beef, |table| call(self.subject, table, t));
+        let answer = guarded(table, 0xdead_beef, |table| {
+            call(self.subject, head, table, t)
+        });
         let mut expected_table = before.clone();
-        let expected = call(&Second, &mut expected_table, t);
+        let expected = call(&Second, head, &mut expected_table, t);
         let told = (head, t, places(table));
         self.same(name, &told, answer, expected);
         self.same(name, &told, &*table, &expected_table);
@@ -156,7 +160,10 @@ impl Pair {
             assert_eq!((answer.head, &*table), (head, &before[..]), "refused");
             assert_eq!([answer.whole, answer.split, answer.born], [0; 3]);
         }
-        let young = beside_young(&before, table, t, &answer, call);
+        if ![1, 4].contains(&answer.number) {
+            self.by_the_source((head, &before), table, t, &answer, call);
+        }
+        let young = beside_young((head, &before), table, t, &answer, call);
         let ages = match name {
             "lift" => &mut self.lift_ages,
             _ => &mut self.ages,
@@ -164,5 +171,25 @@ impl Pair {
         ages.add((&head, &before), t, &answer, &young);
         self.tally.add(name, answer.number);
         answer
+    }
+    /// Whatever the rules of the book and of the other vessels are, a transfer or lift answers the same
+    /// and leaves the same, these rules as they were.
+    fn by_the_source(
+        &self,
+        (head, before): (Head, &[u32]),
+        table: &[u32],
+        t: Transfer,
+        answer: &Transferred,
+        call: Moving,
+    ) {
+        let others = with_other_rules(&head, t.source);
+        let mut other_table = before.to_vec();
+        let mut other = call(self.subject, others, &mut other_table, t);
+        assert_eq!(
+            (other.head.rule, other.head.rules),
+            (others.rule, others.rules)
+        );
+        (other.head.rule, other.head.rules) = (head.rule, head.rules);
+        assert_eq!((&other, &*other_table), (answer, table), "{head:?} {t:?}");
     }
 }

@@ -1,4 +1,4 @@
-//! The book: opening, transfer, lift and tip, reports.
+//! The book: opening, rules, transfer, lift and tip, reports.
 
 use crate::{accept, raw};
 use calls::{Head, Lift, Refusal, Tip, Transfer, Transferred};
@@ -26,7 +26,7 @@ fn moved(head: &mut Head, answer: Transferred) -> Result<Moved, Refusal> {
     })
 }
 
-/// Opens a book under a rule, for 1 to 64 vessels.
+/// Opens a book for 1 to 64 vessels, each of which gets this rule.
 ///
 /// # Errors
 /// [`Refusal::RuleUnknown`], [`Refusal::VesselCount`].
@@ -36,9 +36,22 @@ pub fn open(rule: u32, vessels: u32) -> Result<Head, Refusal> {
     Ok(answer.head)
 }
 
-/// Transfers weight from one vessel to another. What the source lacks is born there; it was milled
-/// `age` minutes before, so that its birth minute is `minute - age`. What is on the scale stays there.
-/// A refused transfer leaves head and table as they are.
+/// Sets the rule of a vessel, by which all later transfers and lifts pick from it: 0 earliest received
+/// first, 1 latest received first, 2 smallest birth minute, 3 largest. It may be set at any moment, also
+/// while the scale is loaded. Nothing else of the head changes, and `rule` stays as the book was opened.
+///
+/// # Errors
+/// The refusals 1, 4, 5 and 2, the first that applies in this order.
+pub fn set_rule(head: &mut Head, table: &[u32], vessel: u32, rule: u32) -> Result<(), Refusal> {
+    let answer = raw::set_rule(*head, table, vessel, rule);
+    accept(answer.number)?;
+    *head = answer.head;
+    Ok(())
+}
+
+/// Transfers weight from one vessel to another, picked by the rule of the source. What that lacks is
+/// born there; it was milled `age` minutes before, so that its birth minute is `minute - age`. What is
+/// on the scale stays there. A refused transfer leaves head and table as they are.
 ///
 /// # Errors
 /// The refusals 1, 4, 5 to 8, 21 and 9 to 11, the first that applies in this order.

@@ -1,9 +1,16 @@
 //! The library's functions as `include/lumchaki.h` declares them.
 
-use calls::{Head, Movement, Opened, Ran, Reading, Reported, Tipped, Transferred};
+use calls::{Head, Movement, Opened, Ran, Reading, Reported, RuleSet, Tipped, Transferred};
 
 extern "C" {
     pub fn lumchaki_open(rule: u32, vessels: u32) -> Opened;
+    pub fn lumchaki_set_rule(
+        head: Head,
+        table: *const u32,
+        table_len: usize,
+        vessel: u32,
+        rule: u32,
+    ) -> RuleSet;
     pub fn lumchaki_transfer(
         head: Head,
         table: *mut u32,
@@ -110,6 +117,7 @@ mod tests {
         let numbers = unsafe {
             let head = lumchaki_open(0, 2).head;
             [
+                lumchaki_set_rule(head, null(), 0, 0, 1).number,
                 lumchaki_transfer(head, null_mut(), 0, 0, 1, 0, 1, 0).number,
                 lumchaki_lift(head, null_mut(), 0, 0, 0, 1, 0).number,
                 lumchaki_tip(head, null_mut(), 0, 0, 0).number,
@@ -127,8 +135,8 @@ mod tests {
                 lumchaki_whole_by_rows(head, t, 8, null_mut(), 0).number,
             ]
         };
-        let [transfer, lift, tip, reports @ ..] = numbers;
-        assert_eq!([transfer, lift, tip], [SHORT; 3]);
+        let [set_rule, transfer, lift, tip, reports @ ..] = numbers;
+        assert_eq!([set_rule, transfer, lift, tip], [SHORT; 4]);
         for numbers in reports.chunks(3) {
             assert_eq!(numbers, [SHORT, SHORT, report_short]);
         }

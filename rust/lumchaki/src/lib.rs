@@ -5,9 +5,9 @@
 //! caller, and a table, lent to each call: four numbers for a piece. Nothing is allocated.
 //!
 //! ```
-//! use lumchaki::{held, lift, open, tip, transfer, Lift, Piece, Refusal, Tip, Transfer};
+//! use lumchaki::{held, lift, open, set_rule, tip, transfer, Lift, Piece, Refusal, Tip, Transfer};
 //!
-//! // Two suppliers deliver to a silo; the mixer takes the oldest flour first (rule 2). The farm's
+//! // Two suppliers deliver to a silo; each vessel gives its oldest flour first (rule 2). The farm's
 //! // comes last and was milled first: it is 60 minutes old.
 //! const MILL: u32 = 0;
 //! const FARM: u32 = 1;
@@ -36,6 +36,12 @@
 //! tip(&mut head, &mut table, Tip::new([MIXER, 512]))?;
 //! assert_eq!(held(&head, &table, MIXER, &mut report)?, [500, 300, 0, 0]);
 //!
+//! // A vessel may get another rule at any moment. The mixer gives first what it received last (rule 1).
+//! set_rule(&mut head, &table, MIXER, 1)?;
+//! transfer(&mut head, &mut table, Transfer::new([MIXER, SILO, 520, 150]))?;
+//! assert_eq!(held(&head, &table, MIXER, &mut report)?, [350, 300, 0, 0]);
+//! assert_eq!(set_rule(&mut head, &table, MIXER, 4), Err(Refusal::RuleUnknown));
+//!
 //! // A refusal changes nothing and has its number and word in document 01 or 02.
 //! let back = transfer(&mut head, &mut table, Transfer::new([SILO, MIXER, 499, 1]));
 //! assert_eq!(back, Err(Refusal::ClockBack));
@@ -50,7 +56,7 @@ mod ffi;
 pub mod raw;
 mod sheet;
 
-pub use book::{held, lift, open, spread, tip, transfer, whole, whole_by_rows, Moved};
+pub use book::{held, lift, open, set_rule, spread, tip, transfer, whole, whole_by_rows, Moved};
 pub use calls::{
     places, Head, Lift, Piece, Refusal, Tip, Transfer, MOVEMENTS, MOVEMENT_BYTES, NAME_BYTES,
     PLACES, SCALE, SHEET_HEADER, VESSELS,

@@ -9,14 +9,20 @@
 
 use crate::ffi;
 use calls::{
-    Head, Lift, Movement, Opened, Ran, Reading, Reported, Tip, Tipped, Transfer, Transferred,
-    NAME_BYTES, SHEET_HEADER,
+    Head, Lift, Movement, Opened, Ran, Reading, Reported, RuleSet, Tip, Tipped, Transfer,
+    Transferred, NAME_BYTES, SHEET_HEADER,
 };
 
 /// Opens a book.
 pub fn open(rule: u32, vessels: u32) -> Opened {
     // SAFETY: plain numbers go in.
     unsafe { ffi::lumchaki_open(rule, vessels) }
+}
+
+/// Sets the rule of a vessel.
+pub fn set_rule(head: Head, table: &[u32], vessel: u32, rule: u32) -> RuleSet {
+    // SAFETY: the table is one slice, lent for reading.
+    unsafe { ffi::lumchaki_set_rule(head, table.as_ptr(), table.len(), vessel, rule) }
 }
 
 /// Transfers weight from one vessel to another. What is born was milled `age` minutes before.

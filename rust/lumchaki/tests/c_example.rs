@@ -4,7 +4,8 @@ use std::path::Path;
 use std::process::Command;
 
 /// The weighing; the pieces of the six movements and of the delivery of older flour, born at 9 - 7,
-/// with what was weighed in vessel 1, behind what came there meanwhile; then the report.
+/// with what was weighed in vessel 1, behind what came there meanwhile, less the gram that went by
+/// its own rule to vessel 2; then the report.
 const OUTPUT: &str = "\
 3 g on the scale
 holder origin birth weight
@@ -13,7 +14,8 @@ holder origin birth weight
      0      1     2      3
      1      1     5      1
      1      1     1      1
-     1      1     1      2
+     1      1     1      1
+     2      1     1      1
 vessel 0 holds 0 g from vessel 0
 vessel 0 holds 3 g from vessel 1
 vessel 0 holds 2 g from vessel 2

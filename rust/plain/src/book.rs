@@ -1,4 +1,4 @@
-//! Opening, and whether a book adds up.
+//! Opening, the rules of the vessels, and whether a book adds up.
 
 use calls::{places, Head, Refusal, SCALE, VESSELS};
 
@@ -9,11 +9,26 @@ pub fn open(rule: u32, vessels: u32) -> Result<Head, Refusal> {
     if vessels == 0 || vessels > VESSELS as u32 {
         return Err(Refusal::VesselCount);
     }
-    Ok(Head {
+    let mut head = Head {
         rule,
         vessels,
         ..Head::ZERO
-    })
+    };
+    head.rules[..vessels as usize].fill(rule);
+    Ok(head)
+}
+
+/// Sets the rule of a vessel: the next head.
+pub fn set_rule(mut head: Head, table: &[u32], vessel: u32, rule: u32) -> Result<Head, Refusal> {
+    check(&head, table)?;
+    if vessel >= head.vessels {
+        return Err(Refusal::NoVessel);
+    }
+    if rule > 3 {
+        return Err(Refusal::RuleUnknown);
+    }
+    head.rules[vessel as usize] = rule;
+    Ok(head)
 }
 
 /// Checks 1 and 4.
@@ -30,6 +45,10 @@ pub fn check(head: &Head, table: &[u32]) -> Result<(), Refusal> {
 /// One pass over the pieces, with sums that do not wrap.
 fn adds_up(head: &Head, table: &[u32]) -> bool {
     if head.rule > 3 || head.vessels == 0 || head.vessels > VESSELS as u32 {
+        return false;
+    }
+    let (known, beyond) = head.rules.split_at(head.vessels as usize);
+    if known.iter().any(|&rule| rule > 3) || beyond.iter().any(|&rule| rule != 0) {
         return false;
     }
     if head.pieces as usize > places(table) || head.pieces > head.accepted {

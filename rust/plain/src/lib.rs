@@ -10,8 +10,8 @@ mod tip;
 mod transfer;
 
 use calls::{
-    Engine, Head, Lift, Movement, Opened, Ran, Reading, Refusal, Reported, Tip, Tipped, Transfer,
-    Transferred,
+    Engine, Head, Lift, Movement, Opened, Ran, Reading, Refusal, Reported, RuleSet, Tip, Tipped,
+    Transfer, Transferred,
 };
 
 /// The plain implementation.
@@ -28,6 +28,16 @@ impl Engine for Plain {
             Err(refusal) => Opened {
                 number: refusal.number(),
                 head: Head::ZERO,
+            },
+        }
+    }
+
+    fn set_rule(&self, head: Head, table: &[u32], vessel: u32, rule: u32) -> RuleSet {
+        match book::set_rule(head, table, vessel, rule) {
+            Ok(head) => RuleSet { number: 0, head },
+            Err(refusal) => RuleSet {
+                number: refusal.number(),
+                head,
             },
         }
     }

@@ -1,5 +1,6 @@
-//! The book: buffers, the transfer and the three reports.
+//! The book: buffers and their rules, the transfer and the three reports.
 
+mod rules;
 mod scale;
 
 use crate::buffer::{Buffer, Given, Lot};
@@ -8,6 +9,7 @@ use calls::{Head, Lift, Piece, Refusal, Transfer, SCALE, TOP, VESSELS};
 /// A book that keeps its pieces itself.
 #[derive(Clone)]
 pub struct Book {
+    /// As the book was opened. It picks nothing: each buffer has the rule of its vessel.
     rule: u32,
     places: usize,
     last: u32,
@@ -69,7 +71,7 @@ fn draw(from: &mut Buffer, want: &Lift, receipts: &mut u64, mut receive: impl Fn
 }
 
 impl Book {
-    /// Opens a book for so many places.
+    /// Opens a book for so many places. Every vessel gets the rule.
     pub fn open(rule: u32, vessels: u32, places: usize) -> Result<Book, Refusal> {
         if rule > 3 {
             return Err(Refusal::RuleUnknown);
@@ -93,6 +95,7 @@ impl Book {
     /// The book of a head and its pieces, if it adds up.
     pub fn resume(head: &Head, places: usize, pieces: &[Piece]) -> Result<Book, Refusal> {
         let mut book = Book::open(head.rule, head.vessels, places).or(Err(Refusal::BookOff))?;
+        book.take_rules(&head.rules)?;
         book.last = head.last;
         book.accepted = head.accepted;
         let counted = pieces.len() == head.pieces as usize
@@ -169,7 +172,7 @@ impl Book {
             && !self.buffers[source].reaches(weight)
     }
 
-    /// Transfers weight: Algorithm 2 of the source with the rule's own pick.
+    /// Transfers weight: Algorithm 2 of the source, with the pick of the giving vessel's rule.
     pub fn transfer(&mut self, t: Transfer) -> Result<Moved, Refusal> {
         if let Some(refusal) = self.refusal(&t) {
             return Err(refusal);
@@ -222,6 +225,9 @@ impl Book {
         };
         for (balance, &sum) in head.balances.iter_mut().zip(&self.balances) {
             *balance = sum as u32; // at most TOP: 9 refuses more
+        }
+        for (rule, buffer) in head.rules.iter_mut().zip(&self.buffers) {
+            *rule = buffer.rule();
         }
         head
     }

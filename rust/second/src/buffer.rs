@@ -1,4 +1,4 @@
-//! What one vessel holds, kept ready for its rule.
+//! What one vessel holds, kept ready for its rule, and turned over when that changes.
 
 use std::cmp::Reverse;
 use std::collections::binary_heap::PeekMut;
@@ -53,6 +53,27 @@ impl Buffer {
             2 => Buffer::FirstBorn(BinaryHeap::new()),
             _ => Buffer::LastBorn(BinaryHeap::new()),
         }
+    }
+
+    /// The rule that it is kept ready for.
+    pub fn rule(&self) -> u32 {
+        match self {
+            Buffer::FirstReceived(_) => 0,
+            Buffer::LastReceived(_) => 1,
+            Buffer::FirstBorn(_) => 2,
+            Buffer::LastBorn(_) => 3,
+        }
+    }
+
+    /// Turned over for another rule: the same lots, received by it in the order of their receipts.
+    pub fn turned(&self, rule: u32) -> Buffer {
+        let mut lots: Vec<Lot> = self.lots().copied().collect();
+        lots.sort_unstable_by_key(|lot| lot.receipt);
+        let mut turned = Buffer::of_rule(rule);
+        for lot in lots {
+            turned.receive(lot);
+        }
+        turned
     }
 
     /// Receives a lot, whose receipt is the latest so far.

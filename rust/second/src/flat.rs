@@ -3,8 +3,8 @@
 use crate::book::{Book, Moved};
 use crate::sheet::{name_part, Sheet};
 use calls::{
-    places, Engine, Head, Lift, Movement, Opened, Piece, Ran, Reading, Refusal, Reported, Tip,
-    Tipped, Transfer, Transferred, NAME_BYTES, SHEET_HEADER,
+    places, Engine, Head, Lift, Movement, Opened, Piece, Ran, Reading, Refusal, Reported, RuleSet,
+    Tip, Tipped, Transfer, Transferred, NAME_BYTES, SHEET_HEADER,
 };
 
 /// The second implementation.
@@ -98,6 +98,17 @@ impl Engine for Second {
                 number: refusal.number(),
                 head: Head::ZERO,
             },
+        }
+    }
+
+    fn set_rule(&self, head: Head, table: &[u32], vessel: u32, rule: u32) -> RuleSet {
+        let set = book_of(&head, table).and_then(|mut book| {
+            book.set_rule(vessel, rule)?;
+            Ok(book.head())
+        });
+        RuleSet {
+            number: set.as_ref().err().map_or(0, |refusal| refusal.number()),
+            head: set.unwrap_or(head),
         }
     }
 

@@ -32,9 +32,13 @@ pub fn tipped(pieces: impl Iterator<Item = Piece>, scale: u32, destination: u32)
 impl Pair {
     /// A lift. An accepted one leaves its weight on the scale, in the last pieces of the table.
     pub fn lift(&mut self, head: Head, table: &mut [u32], l: Lift) -> Transferred {
-        let answer = self.moving("lift", head, table, l.to(SCALE), &|engine, table, t| {
-            engine.lift(head, table, t.lift())
-        });
+        let answer = self.moving(
+            "lift",
+            head,
+            table,
+            l.to(SCALE),
+            &|engine, head, table, t| engine.lift(head, table, t.lift()),
+        );
         if answer.number == 0 {
             let lifted = answer.whole + answer.split + u32::from(answer.born > 0);
             let stayed = (answer.head.pieces - lifted) as usize;

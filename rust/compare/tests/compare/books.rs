@@ -51,12 +51,13 @@ impl Moves {
     }
 }
 
-/// Whether a rule by birth finds two pieces of a vessel born at the same minute.
+/// Whether a vessel's rule goes by birth and finds two of its pieces born at the same minute.
 pub fn tied(head: &Head, table: &[u32], vessel: u32) -> bool {
     let held = held_by(head, table, vessel);
     let mut births: Vec<u32> = held.iter().map(|p| p.birth).collect();
     births.sort_unstable();
-    head.rule >= 2 && births.windows(2).any(|w| w[0] == w[1])
+    let by_birth = head.rules.get(vessel as usize) >= Some(&2);
+    by_birth && births.windows(2).any(|w| w[0] == w[1])
 }
 
 /// The three reports with arguments near the limits.
@@ -181,12 +182,14 @@ fn heads_that_do_not_add_up() {
                     }
                     *count += 1;
                     let transfer = transfer_for(&mut random, &head, &table);
-                    let answer = pair.transfer(head, &mut table, transfer);
-                    assert_eq!(answer.number, OFF, "{clause}");
-                    let answer = pair.lift(head, &mut table, transfer.lift());
-                    assert_eq!(answer.number, OFF, "{clause}");
-                    let answer = pair.tip(head, &mut table, transfer.tip());
-                    assert_eq!(answer.number, OFF, "{clause}");
+                    let [vessel, rule] = [0, 4].map(|mark| near(&mut random, &[mark]));
+                    let numbers = [
+                        pair.set_rule(head, &table, vessel, rule).number,
+                        pair.transfer(head, &mut table, transfer).number,
+                        pair.lift(head, &mut table, transfer.lift()).number,
+                        pair.tip(head, &mut table, transfer.tip()).number,
+                    ];
+                    assert_eq!(numbers, [OFF; 4], "{clause}");
                     reports(&mut pair, &mut random, head, &table);
                 }
             }
@@ -194,7 +197,10 @@ fn heads_that_do_not_add_up() {
         pair.tally.print(&format!("heads off, {}", pair.label()));
         println!("{:?}", FOUL_CLAUSES.iter().zip(covered).collect::<Vec<_>>());
         assert!(covered.into_iter().all(|count| count > 500), "{covered:?}");
-        for call in ["transfer", "lift", "tip", "held", "spread", "whole"] {
+        let calls = [
+            "set rule", "transfer", "lift", "tip", "held", "spread", "whole",
+        ];
+        for call in calls {
             pair.tally.expect(call, &[OFF], 10_000);
         }
     }
@@ -209,6 +215,7 @@ fn more_pieces_than_places_on_a_long_table() {
         for rule in 0..4 {
             let (mut head, mut table) = book(&mut random, rule, 20_000);
             head.vessels = 2;
+            head.rules[2..].fill(0);
             head.balances = [0; 64];
             head.scale = 0;
             head.pieces = 4097;
@@ -246,8 +253,10 @@ fn any_head_and_any_table() {
             head.pieces = near(&mut random, &[1, 2, length as u32 / 4]);
             head.last = near(&mut random, &[2, 1000]);
             head.accepted = near(&mut random, &[3, 1000]);
-            for balance in &mut head.balances[..4] {
+            let vessels = head.balances.iter_mut().zip(&mut head.rules);
+            for (balance, rule) in vessels.take(4) {
                 *balance = near(&mut random, &[0, 0, 2]);
+                *rule = near(&mut random, &[0, 0, 1, 3]);
             }
             head.scale = near(&mut random, &[0, 0, 0, 2]);
             if length > 0 && random.once_in(4) {
@@ -260,10 +269,12 @@ fn any_head_and_any_table() {
             pair.lift(head, &mut table, lift);
             let tip = tip_for(&mut random, &head);
             pair.tip(head, &mut table, tip);
+            let vessel = near(&mut random, &[0, head.vessels]);
+            pair.set_rule(head, &table, vessel, near(&mut random, &[3]));
             reports(&mut pair, &mut random, head, &table);
         }
         pair.tally.print(&format!("any head, {}", pair.label()));
-        for call in ["transfer", "lift", "tip"] {
+        for call in ["transfer", "lift", "tip", "set rule"] {
             assert!(pair.tally.count(call, 4) > 2_000);
             assert!(pair.tally.count(call, 1) > 100);
         }

@@ -53,6 +53,13 @@ impl Desk {
         answer.number
     }
 
+    /// Sets a vessel's rule and gives the number.
+    pub fn set_rule(&mut self, vessel: u32, rule: u32) -> u32 {
+        let answer = self.engine.set_rule(self.head, &self.table, vessel, rule);
+        self.head = answer.head;
+        answer.number
+    }
+
     /// The numbers of the three reports, of vessel or origin 0, and of whole by rows.
     pub fn reports(&self) -> [u32; 4] {
         let (engine, head, table) = (self.engine, self.head, &self.table);

@@ -11,7 +11,7 @@ use std::collections::BTreeMap;
 /// What the transfers came to, on bare scales or beside loaded ones.
 #[derive(Debug, Default)]
 struct Covered {
-    /// Accepted ones under each rule: even, with a split, with a birth.
+    /// Accepted ones by the rule of their source: even, with a split, with a birth.
     even: [u32; 4],
     splits: [u32; 4],
     births: [u32; 4],
@@ -108,14 +108,14 @@ impl Covered {
                     left,
                     "{t:?}"
                 );
-                self.add_accepted(&answer);
+                self.add_accepted(head.rules[t.source as usize], &answer);
             }
         }
         answer.head
     }
 
-    fn add_accepted(&mut self, answer: &Transferred) {
-        let rule = answer.head.rule as usize;
+    fn add_accepted(&mut self, rule: u32, answer: &Transferred) {
+        let rule = rule as usize;
         self.even[rule] += u32::from(answer.even());
         self.splits[rule] += answer.split;
         self.births[rule] += u32::from(answer.born > 0);

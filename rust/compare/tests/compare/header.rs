@@ -62,6 +62,6 @@ fn every_limit_has_its_number() {
 #[test]
 fn every_function_is_declared() {
     let declared = functions(DECLARATIONS);
-    assert_eq!(declared.len(), 14);
+    assert_eq!(declared.len(), 15);
     assert_eq!(functions(HEADER), declared);
 }

@@ -12,6 +12,9 @@ mod no_movements;
 #[cfg(feature = "library")]
 mod one_pass;
 mod order;
+mod rule_books;
+mod rule_order;
+mod rules;
 mod scale;
 mod scale_beside;
 mod scale_books;
@@ -22,6 +25,7 @@ mod second_scale;
 mod sheet_order;
 mod sheets;
 mod stops;
+mod vector_lines;
 mod vectors;
 mod whole;
 #[cfg(feature = "library")]

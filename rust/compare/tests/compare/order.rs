@@ -1,6 +1,6 @@
 //! The order of the checks: every set of faults that a call can have at once, and the answer is the
 //! first of them in the documents' order. Transfers and reports, beside a bare scale and a loaded one;
-//! lift and tip are in `scale_order`, a sheet's calls in `sheet_order`.
+//! lift and tip are in `scale_order`, setting a rule in `rule_order`, a sheet's calls in `sheet_order`.
 
 use calls::{Head, Transfer, SCALE, TOP};
 use compare::{subjects, Pair};
@@ -48,17 +48,18 @@ impl Due {
 }
 
 /// A book of 4 pieces in 3 vessels, with 2 places to spare. A loaded one has a fifth piece among
-/// them, of 9 grams on the scale.
+/// them, of 9 grams on the scale. Vessel 0 has this rule, and the others and the book have other ones.
 pub fn small_book(rule: u32, loaded: bool) -> (Head, Vec<u32>) {
     let mut pieces = vec![[0, 1, 2, 5], [1, 2, 3, 6], [0, 2, 3, 7], [2, 0, 1, 8]];
     let mut head = Head {
-        rule,
+        rule: (rule + 1) % 4,
         vessels: 3,
         last: 4,
         accepted: 6,
         ..Head::ZERO
     };
     head.balances[..3].copy_from_slice(&[12, 6, 8]);
+    head.rules[..3].copy_from_slice(&[rule, (rule + 2) % 4, (rule + 3) % 4]);
     if loaded {
         pieces.insert(2, [SCALE, 1, 3, 9]);
         head.scale = 9;
@@ -70,14 +71,18 @@ pub fn small_book(rule: u32, loaded: bool) -> (Head, Vec<u32>) {
 }
 
 /// Fault 1 cuts the table. Fault 4 has, by its form, one gram too many in a balance, one too many on
-/// the scale, or the scale said to be bare while it is loaded and the other way round.
+/// the scale, the scale said to be bare while it is loaded and the other way round, or a rule that is
+/// none: of the first vessel, of the last one, or of the first behind them.
 pub fn damage_book(set: &[u32], form: usize, head: &mut Head, table: &mut Vec<u32>) {
     for fault in set {
-        match (fault, form % 3) {
+        match (fault, form % 6) {
             (1, _) => table.truncate(3),
             (4, 0) => head.balances[2] += 1,
             (4, 1) => head.scale += 1,
-            (4, _) => head.scale = if head.scale == 0 { 9 } else { 0 },
+            (4, 2) => head.scale = if head.scale == 0 { 9 } else { 0 },
+            (4, 3) => head.rules[0] = 4,
+            (4, 4) => head.rules[2] = TOP,
+            (4, _) => head.rules[3] = 1,
             _ => {}
         }
     }

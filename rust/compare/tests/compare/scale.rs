@@ -8,7 +8,7 @@ use compare::Call;
 pub const LOADED: u32 = Refusal::ScaleLoaded.number();
 pub const BARE: u32 = Refusal::ScaleBare.number();
 
-/// Calls on a fresh book of three vessels, and the pieces they leave under each rule.
+/// Calls on a fresh book, and the pieces they leave under each rule.
 pub type ScaleVector = (&'static [Call], [&'static [[u32; 4]]; 4]);
 
 /// Vessel 0 gets 4 g of vessel 1, then 3 g of vessel 2.
@@ -79,30 +79,34 @@ impl Desk {
             Call::Move(transfer) => self.make(transfer),
             Call::Lift(lift) => self.lift(lift),
             Call::Tip(tip) => self.tip(tip),
+            Call::SetRule(vessel, rule) => self.set_rule(vessel, rule),
             _ => panic!("a report"),
         }
     }
 }
 
-/// Fails unless the calls of each vector are accepted and leave its pieces, and the head counts them.
-pub fn check(vectors: &[ScaleVector]) {
+/// Fails unless the calls of each vector, on a book of so many vessels, are accepted and leave its pieces,
+/// and the head counts them.
+pub fn check(vessels: u32, vectors: &[ScaleVector]) {
     for engine in engines() {
         for (calls, left) in vectors {
             for (rule, pieces) in (0..).zip(left) {
-                let mut desk = Desk::open(engine, rule, 3);
+                let mut desk = Desk::open(engine, rule, vessels);
                 for call in *calls {
                     assert_eq!(desk.call(call), 0);
                 }
                 assert_eq!(desk.pieces(), *pieces, "{} rule {rule}", engine.label());
-                // A tip does not count, and what is on the scale is no vessel's.
-                let counted = calls.iter().filter(|call| !matches!(call, Call::Tip(_)));
-                assert_eq!(desk.head.accepted as usize, counted.count());
+                // A tip or a setting does not count, and what is on the scale is no vessel's.
+                let counts = |call: &&Call| matches!(call, Call::Move(_) | Call::Lift(_));
+                let counted = calls.iter().filter(counts).count();
+                assert_eq!(desk.head.accepted as usize, counted);
                 let sum = |holder| {
                     let held = pieces.iter().filter(|p| p[0] == holder);
                     held.map(|p| p[3]).sum::<u32>()
                 };
                 assert_eq!(desk.head.scale, sum(SCALE));
-                assert_eq!(desk.head.balances[..3], [0, 1, 2].map(sum));
+                let balances = &desk.head.balances[..vessels as usize];
+                assert!(balances.iter().copied().eq((0..vessels).map(sum)));
             }
         }
     }
@@ -110,7 +114,7 @@ pub fn check(vectors: &[ScaleVector]) {
 
 #[test]
 fn divided_transfers() {
-    check(&DIVIDED);
+    check(3, &DIVIDED);
 }
 
 /// The six movements of the published table, each divided: what they leave is the same. Reports go on

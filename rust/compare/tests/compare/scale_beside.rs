@@ -118,7 +118,7 @@ const BESIDE: [ScaleVector; 4] = [
 
 #[test]
 fn transfers_beside_a_loaded_scale() {
-    check(&BESIDE);
+    check(3, &BESIDE);
 }
 
 /// The three reports of a book, each over sevens in a room with a row more than it needs: held of a

@@ -16,7 +16,7 @@ struct Covered {
     transfers: [u32; 3],
     /// Lifts that had to wait.
     waiting: u32,
-    /// Tips under each rule into a vessel that holds something and received some meanwhile.
+    /// Tips into a vessel that holds something and received some meanwhile, by the vessel's rule.
     behind: [u32; 4],
     /// Of those, into the vessel where the load came from.
     back: u32,
@@ -77,7 +77,7 @@ impl Rest<'_> {
             });
             pieces.extend(tipped);
             assert_eq!(held_by(&answer.head, &self.table, vessel), pieces);
-            let rule = self.head.rule as usize;
+            let rule = self.head.rules[vessel as usize] as usize;
             self.covered.behind[rule] += u32::from(received);
             self.covered.back += u32::from(received && vessel == self.source);
         }

@@ -1,8 +1,9 @@
 //! A second, empty scale, which no book has: a lift onto it and its tip, by hand. The pieces are kept in
-//! a list, and what happens to them follows the words of the documents, pick by pick.
+//! a list, and what happens to them follows the words of the documents, pick by pick. So do the calls of
+//! a list.
 
-use calls::{places, Head, Lift, Piece, Refusal, Transfer, SCALE};
-use compare::tipped;
+use calls::{places, Head, Lift, Piece, Refusal, Transfer, SCALE, VESSELS};
+use compare::{tipped, Call};
 use second::WeighBook;
 
 /// The holder number of a second scale.
@@ -25,7 +26,7 @@ pub struct Left {
 }
 
 /// Where the piece lies that a rule picks from a vessel.
-fn picked(rule: u32, pieces: &[Piece], vessel: u32) -> Option<usize> {
+pub fn picked(rule: u32, pieces: &[Piece], vessel: u32) -> Option<usize> {
     let mut held = (0..pieces.len()).filter(|&i| pieces[i].holder == vessel);
     let birth = |&i: &usize| pieces[i].birth;
     match rule {
@@ -70,6 +71,24 @@ fn lift(rule: u32, pieces: &mut Vec<Piece>, l: Lift) -> [u32; 3] {
     [whole, split, wanted]
 }
 
+/// The pieces after an accepted call, by the rules of the vessels. A transfer is divided by the second
+/// scale, and what a lift leaves there is the load.
+pub fn after(mut pieces: Vec<Piece>, rules: &[u32; VESSELS], call: &Call) -> Vec<Piece> {
+    let mut lifted = |l: Lift| lift(rules[l.source as usize], &mut pieces, l);
+    match *call {
+        Call::Move(t) => {
+            lifted(t.lift());
+            tipped(pieces.into_iter(), SECOND_SCALE, t.destination)
+        }
+        Call::Lift(l) => {
+            lifted(l);
+            tipped(pieces.into_iter(), SECOND_SCALE, SCALE)
+        }
+        Call::Tip(t) => tipped(pieces.into_iter(), SCALE, t.destination),
+        _ => pieces,
+    }
+}
+
 /// The weigh book of a head. Its scale is the second one.
 fn weigh_book(head: &Head) -> WeighBook {
     let mut book = WeighBook::new(head.vessels);
@@ -92,7 +111,8 @@ pub fn by_hand(head: &Head, table: &[u32], t: Transfer) -> Result<Left, Refused>
         return Err(Refused::Lift(number));
     }
     let mut pieces: Vec<Piece> = Piece::all(head, table).collect();
-    let counts = lift(head.rule, &mut pieces, t.lift());
+    let rule = head.rules[t.source as usize];
+    let counts = lift(rule, &mut pieces, t.lift());
     if pieces.len() > places(table) {
         return Err(Refused::Lift(Refusal::TableFull.number()));
     }

@@ -5,7 +5,7 @@
 use crate::desk::{engines, Desk};
 use crate::vectors::SIX;
 use calls::{Engine, Head, Piece, PLACES, SCALE, TOP, VESSELS};
-use compare::{balance_of, held_by, room, subjects, Pair, Random};
+use compare::{balance_of, held_by, mixed_rules, room, subjects, Pair, Random};
 use std::collections::BTreeSet;
 
 /// Each way to fill a book: heavy or not, loaded or not.
@@ -34,6 +34,7 @@ pub fn full_book(
         pieces: places as u32,
         last: TOP,
         accepted: places as u32,
+        rules: mixed_rules(random, vessels),
         ..Head::ZERO
     };
     let mut piece = |i| holder_and_origin(random, vessels, loaded, i);
@@ -52,13 +53,7 @@ pub fn full_book(
             (true, later) => random.from_to(1, (TOP - *balance - later).min(TOP / 2)),
         };
         *balance += weight;
-        let piece = Piece {
-            holder,
-            origin,
-            birth: random.any(),
-            weight,
-        };
-        table.extend(piece.numbers());
+        table.extend([holder, origin, random.any(), weight]);
     }
     (head, table)
 }

@@ -30,6 +30,18 @@ impl Seen {
     }
 }
 
+/// A book on a short table, in half of the rounds with weight on the scale; now and then it is off.
+fn any_book(random: &mut Random, round: u32) -> (Head, Vec<u32>) {
+    let length = random.index(50);
+    let of = if round % 8 < 4 { book } else { loaded_book };
+    let (mut head, mut table) = of(random, round % 4, length);
+    if length >= 4 && random.once_in(8) {
+        let clause = random.one_of(&FOUL_CLAUSES);
+        foul_book(random, clause, &mut head, &mut table);
+    }
+    (head, table)
+}
+
 #[test]
 fn openings() {
     for rule in 0..6 {
@@ -50,13 +62,7 @@ fn books() {
     let mut random = Random::new(41);
     let mut seen = Seen::default();
     for round in 0..6_000 {
-        let length = random.index(50);
-        let of = if round % 8 < 4 { book } else { loaded_book };
-        let (mut head, mut table) = of(&mut random, round % 4, length);
-        if length >= 4 && random.once_in(8) {
-            let clause = random.one_of(&FOUL_CLAUSES);
-            foul_book(&mut random, clause, &mut head, &mut table);
-        }
+        let (mut head, mut table) = any_book(&mut random, round);
         let transfer = transfer_for(&mut random, &head, &table);
         let (given_head, mut bare_table) = (head, table.clone());
         let bare = raw::transfer(head, &mut bare_table, transfer);
@@ -108,17 +114,29 @@ fn books() {
 }
 
 #[test]
+fn rules() {
+    let mut random = Random::new(44);
+    let mut seen = Seen::default();
+    for round in 0..6_000 {
+        let (mut head, table) = any_book(&mut random, round);
+        let vessel = near(&mut random, &[0, head.vessels]);
+        let rule = near(&mut random, &[0, 3]);
+        let bare = raw::set_rule(head, &table, vessel, rule);
+        let result = lumchaki::set_rule(&mut head, &table, vessel, rule);
+        assert_eq!(seen.number(&result), bare.number);
+        assert_eq!(head, bare.head);
+    }
+    for number in [0, 1, 2, 4, 5] {
+        assert!(seen.0.get(&number) > Some(&20), "{number}: {:?}", seen.0);
+    }
+}
+
+#[test]
 fn lifts_and_tips() {
     let mut random = Random::new(43);
     let mut seen = [Seen::default(), Seen::default()];
     for round in 0..6_000 {
-        let length = random.index(50);
-        let of = if round % 8 < 4 { book } else { loaded_book };
-        let (mut head, mut table) = of(&mut random, round % 4, length);
-        if length >= 4 && random.once_in(8) {
-            let clause = random.one_of(&FOUL_CLAUSES);
-            foul_book(&mut random, clause, &mut head, &mut table);
-        }
+        let (mut head, mut table) = any_book(&mut random, round);
         let lift = lift_for(&mut random, &head, &table);
         let mut bare_table = table.clone();
         let bare = raw::lift(head, &mut bare_table, lift);

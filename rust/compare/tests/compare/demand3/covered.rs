@@ -37,6 +37,10 @@ pub struct Covered {
     /// Forecasts in which a 21 was met.
     pub age_forecasts: u32,
     pub full: u32,
+    /// Transfers and lifts that picked something by a rule that is not the book's, by that rule.
+    pub by_set_rule: [u32; 4],
+    /// Pairs of lists that differ in their settings alone and leave other pieces.
+    pub apart: u32,
 }
 
 impl Covered {
@@ -54,7 +58,8 @@ impl Covered {
         assert!(self.from_source > 1_000 && self.into_source > 1_000 && self.behind > 1_000);
         assert!(self.forecasts > 300 && self.age_forecasts > 100);
         assert!(self.forecasts_of.iter().all(|&count| count > 100));
-        for call in ["transfer", "lift", "tip"] {
+        assert!(self.by_set_rule.iter().all(|&count| count > 1_000) && self.apart > 1_000);
+        for call in ["transfer", "lift", "tip", "set rule"] {
             assert!(pair.tally.count(call, 0) > 10_000, "{call}");
         }
         ages.expect(&[0, 5, 6, 7, 8, 9, 11], 100);
@@ -63,13 +68,15 @@ impl Covered {
             .expect("transfer", &[0, 1, 5, 6, 7, 8, 9, 11, 21], 100);
         pair.tally.expect("lift", &[0, 1, 5, 7, 8, 11, 21, 22], 100);
         pair.tally.expect("tip", &[0, 1, 5, 8, 9, 23], 100);
+        pair.tally.expect("set rule", &[0, 1, 2, 5], 100);
         pair.tally.expect("held", &[0, 1, 5, 13], 100);
         pair.tally.expect("spread", &[0, 1, 5, 12, 13], 100);
         pair.tally.expect("whole", &[0, 1, 13], 100);
-        for call in ["transfer", "held", "spread", "whole"] {
+        for call in ["set rule", "transfer", "held", "spread", "whole"] {
             assert!(beside.count(call, 0) > 5_000, "{call}");
         }
         beside.expect("transfer", &[0, 5, 6, 7, 8, 9, 11, 21], 500);
+        beside.expect("set rule", &[0, 2, 5], 100);
         beside.expect("held", &[0, 5, 13], 100);
         beside.expect("spread", &[0, 5, 12, 13], 100);
         beside.expect("whole", &[0, 13], 100);
