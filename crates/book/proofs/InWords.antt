@@ -1,9 +1,9 @@
--- Transfer, lift, tip and report in the papers' own words, of a call: where it is answered 0, the table is laid with the pieces of `in_table`, where each
--- picked piece joins the end at once, and the answer is what that says; and a tip leaves the pieces elsewhere in their order and those of the
--- scale, in the order they lay, behind them. And a report: its numbers are written, and the
--- numbers after these remain. What is refused gives zeros, the head as it was, and changes nothing.
+-- Transfer, lift, tip, setting and report in the papers' own words, of a call: where it is answered 0, the table is laid with the pieces of `in_table`,
+-- where each picked piece joins the end at once, and the answer is what that says; a tip leaves the pieces elsewhere in their order and those of the
+-- scale, in the order they lay, behind them; a setting changes one number of the head, and the picks from one vessel. And a report: its numbers are
+-- written, and the numbers after these remain. What is refused gives zeros, the head as it was, and changes nothing.
 -- Assumes nothing.
-use Rattle.std.proofs.Common.{◌≡◌, refl, sym, ap, ◌∙◌, ◌≢◌, List, ◌++◌, map, append-nil, ℕ, arith, length, take, drop, take_at, drop_at}
+use Rattle.std.proofs.Common.{◌≡◌, refl, sym, ap, ◌∙◌, ◌≢◌, not, List, [], ◌∷◌, ◌++◌, map, append-nil, ℕ, arith, leb, ltb, length, take, drop, take_at, drop_at}
 use Rattle.std.proofs.lemmas.Bool.Decides.{nat_tests}
 use Rattle.table.specs.declared.Piece.{Piece}
 use Rattle.table.specs.Pieces.{hand_to}
@@ -13,7 +13,7 @@ use Rattle.taking.specs.InTable.{Moved, in_table}
 use Rattle.taking.specs.Sweeping.{held_by, elsewhere}
 use Rattle.taking.proofs.InTable.{taken_in_table}
 use Rattle.taking.proofs.Sweeping.{sweeps}
-use Rattle.refusal.specs.Numbers.{first}
+use Rattle.refusal.specs.Numbers.{◌if◌, first}
 use Rattle.book.specs.declared.Head.{Head}
 use Rattle.book.specs.declared.Transfer.{Transfer}
 use Rattle.book.specs.declared.Lift.{Lift}
@@ -21,14 +21,14 @@ use Rattle.book.specs.declared.Tip.{Tip}
 use Rattle.book.specs.declared.Setting.{Setting}
 use Rattle.book.specs.declared.Motion.{Motion}
 use Rattle.book.specs.declared.Report.{Report}
-use Rattle.book.specs.Head.{the_scale, most_vessels, book_of, rule_at}
+use Rattle.book.specs.Head.{the_scale, most_vessels, book_of, adds_up, rule_at}
 use Rattle.book.specs.Motion.{of_book, takes}
 use Rattle.book.specs.Transfer.{transfer_checks, motion_of}
 use Rattle.book.specs.Scale.{lift_checks, lift_motion}
-use Rattle.book.specs.Setting.{ruled}
+use Rattle.book.specs.Setting.{setting_checks, ruled}
 use Rattle.book.specs.Reports.{report_row}
 use Rattle.book.specs.Calls.{Call, post, lift, tip, set_rule, ask, Answer, tip_on, meaning}
-use Rattle.book.specs.Memory.{number_of, call_on}
+use Rattle.book.specs.Memory.{number_of, book_checks, call_on}
 use Rattle.book.proofs.RuleLaws.{set_at, set_others}
 use Rattle.book.proofs.Checks.{Fit, LiftFit, setting_fit}
 use Rattle.book.proofs.Memory.{call_number, refused_on, on_number, passed_book, book_passed}
@@ -97,6 +97,12 @@ module _ (h : Head) (t : List ℕ) where
 
   pub report_refused : (q : Report) (room : List ℕ) → ((call_on h t (ask q room)).number ≡ 0 → ⊥) → (call_on h t (ask q room)).room ≡ room
   report_refused q room nz = rw (refused_on h t (ask q room) _ (sym (call_number h t (ask q room))) nz)
+
+  -- "The call checks 1, 4, 5, 2", and nothing else refuses it.
+  pub set_checks : (s : Setting) → number_of h t (set_rule s)
+      ≡ first (1 if ltb (length t) 4 ∷ 4 if not (adds_up h t) ∷ 5 if leb h.vessels s.vessel ∷ 2 if ltb 3 s.rule ∷ [])
+  unfolding number_of book_checks setting_checks
+  set_checks s = grind (arith, nat_tests)
 
   -- a setting, refused or accepted, writes nothing
   pub set_writes_nothing : (s : Setting) → (call_on h t (set_rule s)).table ≡ t
