@@ -1,9 +1,8 @@
 -- Laws of the head: the tests by which a book adds up, what each says where it holds and that a sound piece and equal lists pass them; where pieces lie;
 -- and opening: what passes its checks, and its answer by its number.
 -- Assumes nothing.
-use Rattle.std.proofs.Common.{eqb, ◌≡◌, refl, true, List, [], ◌∷◌, ℕ, zero, suc, ◌≤◌, ◌<◌, arith, length, get_or}
+use Rattle.std.proofs.Common.{◌≡◌, refl, true, List, [], ◌∷◌, ℕ, zero, suc, ◌≤◌, ◌<◌, arith}
 use Rattle.std.proofs.lemmas.Bool.Decides.{nat_tests}
-use Rattle.std.proofs.lemmas.List.Folds.{list_all_at}
 use Rattle.table.specs.declared.Piece.{Piece}
 use Rattle.table.specs.Pieces.{held, All, done, also}
 use Rattle.table.proofs.Pieces.{all_map, all_both}
@@ -11,7 +10,7 @@ use Rattle.taking.proofs.Sweeping.{none_held}
 use Rattle.refusal.specs.Numbers.{first}
 use Rattle.book.specs.declared.Head.{Head}
 use Rattle.book.specs.declared.Reply.{Reply}
-use Rattle.book.specs.Head.{last_rule, most_vessels, the_scale, fits, every, same, all_zero, empty_head, not_opened, open_checks, opens, opening}
+use Rattle.book.specs.Head.{last_rule, most_vessels, the_scale, fits, every, same, empty_head, not_opened, open_checks, opens, opening}
 use Rattle.book.proofs.HolderLaws.{holder_vessel}
 use Rattle.book.proofs.Sound.{SoundPiece}
 
@@ -27,16 +26,6 @@ same_eq [] [] e = refl
 same_eq [] (y ∷ ys) e = cc
 same_eq (x ∷ xs) [] e = cc
 same_eq (x ∷ xs) (y ∷ ys) e = grind (arith, nat_tests, same_eq xs ys)
-
--- numbers that are all 0, by what each is
-pub zero_at : (l : List ℕ) → all_zero l ≡ true → (v : ℕ) → v < length l → get_or l v 0 ≡ 0
-unfolding all_zero
-zero_at l e v h = grind (arith, nat_tests, list_all_at (λ x. eqb x 0) l v 0)
-
-pub at_zero : (l : List ℕ) → ((v : ℕ) → v < length l → get_or l v 0 ≡ 0) → all_zero l ≡ true
-unfolding all_zero
-at_zero [] h = refl
-at_zero (x ∷ l) h = let u = at_zero l (λ v u. h (suc v) (omega arith)) in grind (arith, nat_tests, h 0)
 
 -- pieces that fit are sound
 module _ (size last : ℕ) where

@@ -1,5 +1,6 @@
 pub mod HolderLaws
 pub mod BalanceLaws
+pub mod ZeroLaws
 pub mod RuleLaws
 pub mod Checks
 pub mod Sound

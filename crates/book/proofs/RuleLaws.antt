@@ -1,16 +1,12 @@
 -- Laws of the rules that vessels have: those given at opening fit, and each vessel has the book's; rules that fit still do after one is set; and from V on
 -- they are rule 0, which is how the scale's pieces are picked, so that what is no vessel has no rule of its own.
 -- Assumes nothing.
-use Rattle.std.proofs.Common.{◌≡◌, refl, ◌≢◌, true, List, [], ◌∷◌, ◌++◌, ℕ, zero, suc, ◌≤◌, ◌<◌, arith, length, get_or, get_or-set_same, get_or-set_other, set, drop, replicate}
+use Rattle.std.proofs.Common.{◌≡◌, ◌≢◌, true, List, [], ◌∷◌, ◌++◌, ℕ, zero, suc, ◌≤◌, ◌<◌, arith, length, get_or-set_same, get_or-set_other, set, drop, replicate}
 use Rattle.std.proofs.lemmas.Bool.Decides.{nat_tests}
 use Rattle.std.proofs.lemmas.List.{drop-replicate, get_or-replicate, length-replicate}
 use lib.ListN.{get_or-append}
-use Rattle.book.specs.Head.{last_rule, most_vessels, as_they_lie, rule_at, all_zero, rules_fit, given_rules}
-
-zeros : (n : ℕ) → all_zero (replicate n 0) ≡ true
-unfolding all_zero
-zeros zero = refl
-zeros (suc n) = zeros n
+use Rattle.book.specs.Head.{last_rule, most_vessels, as_they_lie, rule_at, rules_fit, given_rules}
+use Rattle.book.proofs.ZeroLaws.{zeros, zeros_from}
 
 given_before : (rule size n : ℕ) → rule ≤ last_rule → rules_fit size (replicate size rule ++ replicate n 0) ≡ true
 unfolding rules_fit
@@ -40,14 +36,6 @@ set_at v rule rules inside long = grind (arith, nat_tests, get_or-set_same rules
 
 pub set_others : (v rule w : ℕ) (rules : List ℕ) → w ≢ v → rule_at (set rules v rule) w ≡ rule_at rules w
 set_others v rule w rules apart = grind (arith, nat_tests, get_or-set_other rules v w rule 0)
-
-zeros_from : (size v : ℕ) (rules : List ℕ) → all_zero (drop size rules) ≡ true → size ≤ v → get_or rules v 0 ≡ 0
-unfolding all_zero
-zeros_from size v [] e past = refl
-zeros_from zero zero (x ∷ rules) e past = grind (arith, nat_tests)
-zeros_from zero (suc v) (x ∷ rules) e past = grind (arith, nat_tests, zeros_from zero v rules)
-zeros_from (suc size) zero (x ∷ rules) e past = absurd (omega arith)
-zeros_from (suc size) (suc v) (x ∷ rules) e past = zeros_from size v rules e (omega arith)
 
 pub rule_beyond : (size v : ℕ) (rules : List ℕ) → rules_fit size rules ≡ true → size ≤ v → rule_at rules v ≡ as_they_lie
 unfolding rules_fit

@@ -1,6 +1,6 @@
 // Whether a book adds up.
-ghost use Rattle.std.specs.Prelude.{◌≡◌, ◌≤◌};
-ghost use Rattle.book.specs.Head.{most_vessels, is_holder, all_of, lot_fits, fits, all_zero, known_rule, rules_fit, balanced, adds_up, Sized};
+ghost use Rattle.std.specs.Prelude.{◌≡◌, ◌≤◌, length, drop};
+ghost use Rattle.book.specs.Head.{most_vessels, holdings, all_of, lot_fits, all_zero, known_rule, rules_fit, balanced, adds_up, Sized};
 ghost use Rattle.std.specs.List.{list_all};
 ghost use Rattle.refusal.specs.Numbers.{first};
 ghost use Rattle.refusal.specs.Refusals.{outcome_number};
@@ -21,13 +21,6 @@ struct Limits {
 }
 
 impl Limits {
-    // Whether the book has the holder: a vessel, or the scale.
-    fn has(self, holder: u32) -> bool
-        ensures { result ≡ is_holder self.vessels holder }
-    {
-        holder < self.vessels || holder == SCALE
-    }
-
     // Whether the origin, the birth minute and the weight of the piece fit.
     fn lot_fits(self, p: Piece) -> bool
         ensures { result ≡ lot_fits self.vessels self.last p }
@@ -35,25 +28,16 @@ impl Limits {
         p.origin < self.vessels && p.birth <= self.last && 1 <= p.weight
     }
 
-    // Whether the piece fits, wherever it lies.
-    fn fits(self, p: Piece) -> bool
-        ensures { result ≡ fits self.vessels self.last p }
-    {
-        self.has(p.holder) && self.lot_fits(p)
-    }
-
-    // Whether the piece fits, and what is left of its holder's balance covers it.
+    // Whether the piece fits, and what is left of its holder's balance covers it. Which holders a book has is not asked: no other has anything left.
     fn covers(self, p: Piece, rest: &[u32; HOLDERS]) -> bool
-        requires { self.vessels ≤ most_vessels }
         ensures { result ≡ covers self.vessels self.last rest.now p }
     {
-        self.fits(p) && p.weight <= rest[p.holder as usize]
+        self.lot_fits(p) && p.holder <= SCALE && p.weight <= rest[p.holder as usize]
     }
 
     // Whether the pieces draw the balances of all holders down to nothing.
     #[tactic(auto, unfolding(crate::specs::Audit::drained))]
     fn drained(self, pieces: &Pieces, balances: [u32; HOLDERS]) -> bool
-        requires { self.vessels ≤ most_vessels }
         ensures { result ≡ drained self.vessels self.last balances pieces.now }
     {
         let mut rest = balances;
@@ -75,11 +59,18 @@ fn all_zero(rest: &[u32]) -> bool
     rest.iter().all(|x| *x == 0)
 }
 
-// Whether the pieces fit, and the balances of the head, the scale's among them, are their sums.
-#[tactic(auto, using(crate::proofs::Drained::drawn_all))]
-fn is_balanced(head: Head, pieces: &Pieces) -> bool
+// Whether no vessel from V on has any weight.
+fn bare_beyond(head: Head) -> bool
     requires { head.vessels ≤ most_vessels }
-    ensures { result ≡ all_of (balanced head pieces.now) }
+    ensures { result ≡ all_zero (drop head.vessels head.balances) }
+{
+    all_zero(&head.balances[head.vessels as usize..])
+}
+
+// Whether the pieces draw the balances of the head, the scale's among them, down to nothing.
+#[tactic(auto, using(crate::proofs::Drained::drawn_all))]
+fn draw_all(head: Head, pieces: &Pieces) -> bool
+    ensures { (result ≡ drained head.vessels head.last (holdings head) pieces.now) × (length head.balances ≡ most_vessels) }
 {
     let mut balances = [0u32; HOLDERS];
     balances[..MOST_VESSELS].copy_from_slice(&head.balances);
@@ -89,6 +80,15 @@ fn is_balanced(head: Head, pieces: &Pieces) -> bool
         last: head.last,
     };
     limits.drained(pieces, balances)
+}
+
+// Whether the pieces fit, and the balances of the head, the scale's among them, are their sums.
+#[tactic(auto, using(crate::proofs::Drained::weight_beyond))]
+fn is_balanced(head: Head, pieces: &Pieces) -> bool
+    requires { head.vessels ≤ most_vessels }
+    ensures { result ≡ all_of (balanced head pieces.now) }
+{
+    bare_beyond(head) && draw_all(head, pieces)
 }
 
 // Whether all of these rules are known.
