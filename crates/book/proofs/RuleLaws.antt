@@ -1,16 +1,17 @@
--- Laws of the rules that vessels have: those given at opening fit, and each vessel has the book's; rules that fit still do after one is set; and from V on
--- they are rule 0, which is how the scale's pieces are picked, so that what is no vessel has no rule of its own.
+-- Laws of the rules that vessels have: those given at opening fit, and each vessel has the book's; rules that fit still do after one is set; from V on
+-- they are rule 0, which is how the scale's pieces are picked, so that what is no vessel has no rule of its own; and each is one of the four.
 -- Assumes nothing.
-use Rattle.std.proofs.Common.{◌≡◌, ◌≢◌, true, List, [], ◌∷◌, ◌++◌, ℕ, zero, suc, ◌≤◌, ◌<◌, arith, length, get_or-set_same, get_or-set_other, set, drop, replicate}
+use Rattle.std.proofs.Common.{◌≡◌, ◌≢◌, true, List, [], ◌∷◌, ◌++◌, ℕ, zero, suc, ◌≤◌, ◌<◌, arith, length, get_or, get_or-set_same, get_or-set_other, set, take, drop, replicate}
 use Rattle.std.proofs.lemmas.Bool.Decides.{nat_tests}
+use Rattle.std.specs.List.{list_all}
 use Rattle.std.proofs.lemmas.List.{drop-replicate, get_or-replicate, length-replicate}
 use lib.ListN.{get_or-append}
-use Rattle.book.specs.Head.{last_rule, most_vessels, as_they_lie, rule_at, rules_fit, given_rules}
-use Rattle.book.proofs.ZeroLaws.{zeros, zeros_from}
+use Rattle.book.specs.Head.{last_rule, most_vessels, as_they_lie, rule_at, known_rule, rules_fit, given_rules}
+use Rattle.book.proofs.ZeroLaws.{zeros_all, zeros_from}
 
 given_before : (rule size n : ℕ) → rule ≤ last_rule → rules_fit size (replicate size rule ++ replicate n 0) ≡ true
 unfolding rules_fit
-given_before rule zero n known = zeros n
+given_before rule zero n known = zeros_all n
 given_before rule (suc size) n known = grind (arith, nat_tests, given_before rule size n known)
 
 -- as the code writes them: over zeros
@@ -37,6 +38,17 @@ set_at v rule rules inside long = grind (arith, nat_tests, get_or-set_same rules
 pub set_others : (v rule w : ℕ) (rules : List ℕ) → w ≢ v → rule_at (set rules v rule) w ≡ rule_at rules w
 set_others v rule w rules apart = grind (arith, nat_tests, get_or-set_other rules v w rule 0)
 
+known_at : (size v : ℕ) (rules : List ℕ) → list_all known_rule (take size rules) ≡ true → v < size → get_or rules v 0 ≤ last_rule
+known_at size v [] e inside = omega arith
+known_at zero v (x ∷ rules) e inside = absurd (omega arith)
+known_at (suc size) zero (x ∷ rules) e inside = grind (arith, nat_tests)
+known_at (suc size) (suc v) (x ∷ rules) e inside = grind (arith, nat_tests, known_at size v rules)
+
 pub rule_beyond : (size v : ℕ) (rules : List ℕ) → rules_fit size rules ≡ true → size ≤ v → rule_at rules v ≡ as_they_lie
 unfolding rules_fit
 rule_beyond size v rules e past = grind (arith, nat_tests, zeros_from size v rules)
+
+-- so that every holder's pieces are picked by one of the four
+pub rule_known : (size v : ℕ) (rules : List ℕ) → rules_fit size rules ≡ true → rule_at rules v ≤ last_rule
+unfolding rules_fit
+rule_known size v rules e = grind (arith, nat_tests, known_at size v rules, zeros_from size v rules)

@@ -5,10 +5,10 @@ use Rattle.std.proofs.lemmas.Bool.Decides.{nat_tests}
 use Rattle.std.proofs.lemmas.List.Folds.{list_all_at}
 use Rattle.book.specs.Head.{all_zero}
 
-pub zeros : (n : ℕ) → all_zero (replicate n 0) ≡ true
+pub zeros_all : (n : ℕ) → all_zero (replicate n 0) ≡ true
 unfolding all_zero
-zeros zero = refl
-zeros (suc n) = zeros n
+zeros_all zero = refl
+zeros_all (suc n) = zeros_all n
 
 -- by what each is
 pub zero_at : (l : List ℕ) → all_zero l ≡ true → (v : ℕ) → v < length l → get_or l v 0 ≡ 0
