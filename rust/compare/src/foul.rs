@@ -6,7 +6,7 @@ use crate::Random;
 use calls::{places, Head, SCALE, TOP, VESSELS};
 
 /// The clauses of "adds up", each with a way to break it alone.
-pub const FOUL_CLAUSES: [&str; 23] = [
+pub const FOUL_CLAUSES: [&str; 24] = [
     "rule",
     "rule of a vessel",
     "rule beyond the vessels",
@@ -17,6 +17,7 @@ pub const FOUL_CLAUSES: [&str; 23] = [
     "holder",
     "holder that marks a gone piece",
     "holder behind the scale",
+    "holder beyond the vessels, with its weight",
     "origin",
     "origin on the scale",
     "birth",
@@ -106,6 +107,11 @@ fn foul_piece(random: &mut Random, clause: &str, head: &mut Head, table: &mut [u
                 "holder that marks a gone piece" => TOP,
                 _ => SCALE + 1,
             };
+        }
+        "holder beyond the vessels, with its weight" if vessels < VESSELS as u32 => {
+            *balance_of(head, holder) -= weight;
+            table[at] = random.from_to(vessels, VESSELS as u32 - 1);
+            *balance_of(head, table[at]) += weight;
         }
         "origin" => table[at + 1] = near(random, &[vessels, 64, TOP]).max(vessels),
         "origin on the scale" => table[at + 1] = SCALE,
