@@ -1,8 +1,8 @@
 -- THE AGE OF WHAT IS BORN. `age_zero`: a transfer of age 0 gives and leaves what the transfer without an age gave and left, on any table and any
--- head with nothing on the scale, whose rules were never set; `age_zero_weighed`: and so it is to the weigh book, whatever is on its scale. `before_time`: past 5 to 8 an age above the minute is 21, whatever the balances
--- are, so also where nothing would be born. `aged`: what ages do under rules 2 and 3, where births no longer follow the order of receipt, on
--- small cases. `one_entry`: births of one vessel at different minutes, with ages that bring them to the same minute, are one entry of the
--- weigh book.
+-- head with nothing on the scale, whose rules were never set; `age_zero_weighed`: and so it is to the weigh book, whatever is on its scale.
+-- `before_time`: past 5 to 8 an age above the minute is 21, whatever the balances are, so also where nothing would be born. `aged`: what ages do
+-- under rules 2 and 3, where births no longer follow the order of receipt, on small cases. `one_entry`: births of one vessel at different minutes,
+-- with ages that bring them to the same minute, are one entry of the weigh book.
 -- Assumes nothing.
 use Rattle.std.proofs.Common.{◌≡◌, refl, sym, ◌∙◌, ◌≢◌, List, [], ◌∷◌, map, ℕ, zero, suc, ◌≤◌, ◌<◌, add-one, arith, lt-ltb, le-ltb}
 use native.Mathlib.Nat.{sub-zero}

@@ -87,8 +87,8 @@ fn next_head(head: Head, m: Motion, moved: Applied) -> Head
     next
 }
 
-// The motion, with pieces picked by the rule of its source and with memory lent to work in. Here and in the crates above, head, table and memory are parameters of their own:
-// C lends head and table each by itself, and the table is written.
+// The motion, with pieces picked by the rule of its source and with memory lent to work in. Here and in the crates above, head, table and memory are
+// parameters of their own: C lends head and table each by itself, and the table is written.
 #[tactic(auto, unfolding(book::specs::Motion::takes))]
 pub fn carry(
     head: Head,
