@@ -3,7 +3,7 @@
 use Rattle.std.specs.Prelude.{List, [], ◌∷◌, ◌++◌, ℕ, ◌+◌, ltb, length}
 use Rattle.table.specs.Pieces.{held}
 use Rattle.table.specs.Table.{lay}
-use Rattle.taking.specs.Taking.{Taken}
+use Rattle.taking.specs.Taken.{Taken}
 use Rattle.refusal.specs.Numbers.{Check, ◌if◌, if_zero}
 use Rattle.book.specs.declared.Transfer.{Transfer}
 use Rattle.book.specs.declared.Lift.{Lift}

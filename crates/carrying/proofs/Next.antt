@@ -8,7 +8,8 @@ use Rattle.table.specs.Closing.{Present}
 use Rattle.table.specs.Table.{pieces_of, places_of}
 use Rattle.table.proofs.Pieces.{all_map}
 use Rattle.table.proofs.Table.{places_fit}
-use Rattle.taking.specs.Taking.{Taken, handed}
+use Rattle.taking.specs.Taken.{Taken}
+use Rattle.taking.specs.Taking.{handed}
 use Rattle.moving.specs.declared.Applied.{Applied}
 use Rattle.moving.specs.Applied.{accepted, applied, Ready, Moves}
 use Rattle.refusal.specs.Numbers.{first}

@@ -11,7 +11,8 @@ use Rattle.picking.specs.declared.plan.Plan.{Plan}
 use Rattle.moving.specs.declared.Applied.{Applied}
 use Rattle.moving.specs.declared.apply.Withdrawal.{Withdrawal}
 use Rattle.taking.specs.declared.Move.{Move}
-use Rattle.taking.specs.Taking.{Taken, handed, taken}
+use Rattle.taking.specs.Taken.{Taken}
+use Rattle.taking.specs.Taking.{handed, taken}
 use Rattle.picking.specs.Plan.{at_key, in_order, count_of, plan_from, splits, lacking, taken_by, planned}
 use Rattle.moving.specs.Applied.{full, accepted, applied, table_left, Ready, Moves}
 use Rattle.picking.specs.Ordering.{Ordered}

@@ -5,7 +5,8 @@ use Rattle.table.specs.Pieces.{All}
 use Rattle.table.specs.Table.{most_places, pieces_of, lay}
 use Rattle.table.specs.Closing.{VACANT, Present}
 use Rattle.taking.specs.declared.Move.{Move}
-use Rattle.taking.specs.Taking.{Taken, handed, taken}
+use Rattle.taking.specs.Taken.{Taken}
+use Rattle.taking.specs.Taking.{handed, taken}
 use Rattle.moving.specs.declared.Applied.{Applied}
 
 abbrev pub full : ℕ → Move → Taken → Bool

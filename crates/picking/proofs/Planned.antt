@@ -20,7 +20,8 @@ use Rattle.sorting.proofs.Laws.{length_sort}
 use Rattle.picking.specs.declared.plan.Plan.{Plan}
 use Rattle.taking.specs.Selection.{Found, nothing, at, select}
 use Rattle.taking.specs.declared.Move.{Move}
-use Rattle.taking.specs.Taking.{Taken, stop, one_whole, take_from, take_found, take_next, take_up_to, taken}
+use Rattle.taking.specs.Taken.{Taken, stop, one_whole}
+use Rattle.taking.specs.Taking.{take_from, take_found, take_next, take_up_to, taken}
 use Rattle.picking.specs.Plan.{by_birth, backwards, key_of, place_of, at_key, keys_of, turned, order_of, vacate_at, vacate_all, picked, halt, plan_from, reduced, taken_by, planned}
 use Rattle.picking.proofs.Picks.{prefers, rule_is, place_key, Headed, Picked, picks_first}
 

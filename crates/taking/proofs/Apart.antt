@@ -9,7 +9,8 @@ use Rattle.table.specs.Pieces.{of_weight}
 use Rattle.table.proofs.Pieces.{all_if_any}
 use Rattle.taking.specs.Selection.{Found, nothing, at, behind, against, wins, select}
 use Rattle.taking.specs.declared.Move.{Move}
-use Rattle.taking.specs.Taking.{Taken, one_whole, take_from, take_found, take_next, take_up_to, taken, newborn, handed}
+use Rattle.taking.specs.Taken.{Taken, one_whole}
+use Rattle.taking.specs.Taking.{take_from, take_found, take_next, take_up_to, taken, newborn, handed}
 use Rattle.taking.specs.Sweeping.{elsewhere}
 use Rattle.taking.proofs.HeldBy.{elsewhere_append, all_elsewhere}
 use Rattle.taking.proofs.Taking.{Good, select_good}

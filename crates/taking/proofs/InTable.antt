@@ -8,7 +8,8 @@ use Rattle.table.specs.Pieces.{hand_to, All, done, also}
 use Rattle.table.proofs.Pieces.{all_append}
 use Rattle.taking.specs.Selection.{Found, nothing, at, wins, behind, against, select}
 use Rattle.taking.specs.declared.Move.{Move}
-use Rattle.taking.specs.Taking.{Taken, take_from, take_found, take_next, take_up_to, taken, handed}
+use Rattle.taking.specs.Taken.{Taken}
+use Rattle.taking.specs.Taking.{take_from, take_found, take_next, take_up_to, taken, handed}
 use Rattle.taking.specs.InTable.{Moved, with_one_more, move_from, move_found, move_next, move_up_to, in_table}
 
 -- pieces of others behind do not matter to the selection

@@ -11,7 +11,8 @@ use Rattle.table.specs.Pieces.{hand_to, if_any, held, All, done, also}
 use Rattle.table.proofs.Pieces.{total_append, all_append, all_split, all_tail, all_if_any}
 use Rattle.taking.specs.Selection.{Found, nothing, at, wins, select}
 use Rattle.taking.specs.declared.Move.{Move}
-use Rattle.taking.specs.Taking.{Taken, stop, one_whole, take_from, take_found, take_next, take_up_to, taken, newborn, handed}
+use Rattle.taking.specs.Taken.{Taken, stop, one_whole}
+use Rattle.taking.specs.Taking.{take_from, take_found, take_next, take_up_to, taken, newborn, handed}
 use Rattle.taking.specs.Sweeping.{held_by, elsewhere, swept}
 use Rattle.taking.proofs.HeldBy.{held_by_append, none_of_it, elsewhere_append, all_elsewhere}
 use Rattle.taking.proofs.Taking.{Good, select_good}

@@ -2,7 +2,7 @@
 -- Definitions only. Assumes nothing.
 use Rattle.std.specs.Prelude.{cond, List, [], ◌∷◌, ℕ, eqb, length}
 use Rattle.table.specs.declared.Piece.{Piece}
-use Rattle.taking.specs.Taking.{Taken}
+use Rattle.taking.specs.Taken.{Taken}
 
 -- the pieces of a holder, in the order they lie
 unfoldable pub held_by : ℕ → List Piece → List Piece
