@@ -2,22 +2,23 @@
 -- to what is wanted; no piece gives more than it has, and a piece of another holder gives nothing. So the taking is fair, as that of the four first rules is:
 -- `taken_fair` says it of every rule. By induction over the pieces, with the sum of those before.
 -- Assumes nothing.
-use Rattle.std.proofs.Common.{◌≡◌, refl, sym, ap, ◌∙◌, ◌≢◌, Bool, true, false, cond, List, [], ◌∷◌, ◌++◌, map, ℕ, zero, suc, ◌+◌, ◌-◌, ◌≤◌, ◌<◌, arith, ltb, eqb, length, eqb-true, eq-eqb, ne_eqb, ltb-true, ltb-false, add-zero, zero-add}
+use Rattle.std.proofs.Common.{◌≡◌, refl, sym, ap, ◌∙◌, ◌≢◌, Bool, true, false, cond, List, [], ◌∷◌, ℕ, ◌+◌, ◌-◌, ◌≤◌, ◌<◌, arith, ltb, eqb, length, eqb-true, ne_eqb, ltb-true, lt-ltb, le-ltb, ◌*◌, get_or, add-zero, zero-add}
 use Rattle.std.proofs.lemmas.Bool.Decides.{nat_tests}
 use borrow.Author.Tests.{eqb-false}
 use Rattle.sharing.specs.Sharing.{up_to, share, shares}
-use Rattle.sharing.proofs.Shares.{up_to_none, up_to_all, share_adds, share_fits}
+use Rattle.sharing.specs.Sharing.{sum as total_weight}
+use Rattle.sharing.proofs.Shares.{Within, up_to_none, up_to_all, share_adds, share_fits, shares_sum, shares_near}
 use Rattle.table.specs.declared.Piece.{Piece}
 use Rattle.table.specs.Pieces.{of_weight, Kind, weigh, sum, in_vessel, held, weight_of, All, done, also}
 use Rattle.table.proofs.Pieces.{in_two, all_head, all_tail}
 use Rattle.taking.specs.declared.Move.{Move}
 use Rattle.taking.specs.Selection.{as_received}
-use Rattle.taking.specs.Taken.{Taken, stop, one_whole}
-use Rattle.taking.specs.Stirring.{stirred_rule, weights_in, stays, in_parts, gives, giving, stirred}
+use Rattle.taking.specs.Taken.{Taken, one_whole}
+use Rattle.taking.specs.Stirring.{stirred_rule, weights_in, gifts, stays, in_parts, gives, giving, stirred, left_of, given_by}
 use Rattle.taking.specs.Taking.{singly, taken}
 use Rattle.taking.specs.Sweeping.{held_by}
 use Rattle.taking.proofs.HeldBy.{passed_over}
-use Rattle.taking.proofs.Taking.{Reweigh, Fair, Law, singly_law}
+use Rattle.taking.proofs.Taking.{Reweigh, Fair, singly_law}
 
 -- What gives something is held by s, and its whole weight counts there.
 pub own_gift : (s g : ℕ) (p : Piece) → g ≤ weigh (in_vessel s) p → g ≢ 0 → (p.holder ≡ s) × (g ≤ p.weight)
@@ -130,6 +131,19 @@ module _ (x : Move) (ps : List Piece) (more : x.weight < held x.source ps) where
     others = i.others;
   }
 
+-- What is taken under another rule than 4, and under rule 4 where no more is wanted than the vessel has.
+pub taken_singly : (rule : ℕ) (x : Move) (ps : List Piece) → rule ≢ stirred_rule → taken rule x ps ≡ singly rule x ps
+unfolding taken
+taken_singly rule x ps first = rw (ne_eqb rule stirred_rule first) refl
+
+pub taken_stirred : (x : Move) (ps : List Piece) → x.weight < held x.source ps → taken stirred_rule x ps ≡ stirred x ps
+unfolding taken
+taken_stirred x ps more = rw (lt-ltb _ _ more) refl
+
+pub taken_out : (x : Move) (ps : List Piece) → held x.source ps ≤ x.weight → taken stirred_rule x ps ≡ singly as_received x ps
+unfolding taken
+taken_out x ps none = rw (le-ltb _ _ none) refl
+
 -- What is taken under any rule is fair.
 pub taken_fair : (rule : ℕ) (x : Move) (ps : List Piece) → Fair x.source x.weight ps (taken rule x ps)
 unfolding taken
@@ -139,3 +153,38 @@ taken_fair rule x ps = go (eqb rule stirred_rule) (ltb x.weight (held x.source p
     go true true e = stirred_fair x ps (ltb-true _ _ e)
     go true false e = (singly_law as_received x ps).fair
     go false b e = (singly_law rule x ps).fair
+
+-- and where all is taken nothing is split
+pub none_split : (rule : ℕ) (x : Move) (ps : List Piece) → held x.source ps ≤ x.weight → (taken rule x ps).split ≡ 0
+unfolding taken
+none_split rule x ps all = rw (le-ltb _ _ all) (go (eqb rule stirred_rule))
+  where
+    go : (a : Bool) → (cond a (singly as_received x ps) (singly rule x ps)).split ≡ 0
+    go true = omega (arith, (singly_law as_received x ps).left_over)
+    go false = omega (arith, (singly_law rule x ps).left_over)
+
+-- LESS THAN ONE GRAM: what the piece at any place gives differs from its exact part of what is wanted by less than 1, and all gifts sum to that.
+sum_weights : (s : ℕ) (ps : List Piece) → total_weight (weights_in s ps) ≡ held s ps
+sum_weights s [] = refl
+sum_weights s (p ∷ ps) = omega (arith, sum_weights s ps)
+
+pub gifts_near : (x : Move) (ps : List Piece) → 0 < held x.source ps → (i : ℕ)
+    → Within (held x.source ps) (get_or (gifts x ps) i 0 * held x.source ps) (x.weight * get_or (weights_in x.source ps) i 0)
+gifts_near x ps some i = rw (sum_weights x.source ps) at (shares_near x.weight (weights_in x.source ps) (rw sum_weights some) i)
+
+pub gifts_sum : (x : Move) (ps : List Piece) → 0 < held x.source ps → total_weight (gifts x ps) ≡ x.weight
+gifts_sum x ps some = rw (sum_weights x.source ps) at (shares_sum x.weight (weights_in x.source ps) (rw sum_weights some))
+
+-- IN WORDS: what is left of each piece stays in its order, and what each gives goes in that order, whole pieces and parts alike.
+module _ (s q T : ℕ) (some : 0 < T) (few : q ≤ T) where
+  left_given : (c : ℕ) (ps : List Piece) → All (λ p. 1 ≤ p.weight) ps
+      → let gs = shares q T c (weights_in s ps) in ((giving gs ps).rest ≡ left_of gs ps) × ((giving gs ps).given ≡ given_by gs ps)
+  unfolding giving shares left_of given_by
+  left_given c [] h = (refl, refl)
+  left_given c (p ∷ ps) (also h x) =
+      let w = weigh (in_vessel s) p in
+      grind (arith, nat_tests, left_given (c + w) ps x, share_fits q T some few c w)
+
+pub stirred_pieces : (x : Move) (ps : List Piece) → All (λ p. 1 ≤ p.weight) ps → x.weight < held x.source ps
+    → ((stirred x ps).rest ≡ left_of (gifts x ps) ps) × ((stirred x ps).given ≡ given_by (gifts x ps) ps)
+stirred_pieces x ps h more = left_given x.source x.weight (held x.source ps) (omega arith) (omega arith) 0 ps h

@@ -1,8 +1,8 @@
 -- "Stirred vessels": rule 4. "A stirred liquid leaven gives from everything in it": each piece of the source gives a share of what is wanted.
 -- Definitions only. Assumes nothing.
-use Rattle.std.specs.Prelude.{cond, List, [], ◌∷◌, map, ℕ, suc, ◌-◌, eqb}
+use Rattle.std.specs.Prelude.{cond, List, [], ◌∷◌, ◌++◌, map, ℕ, suc, ◌-◌, eqb}
 use Rattle.table.specs.declared.Piece.{Piece}
-use Rattle.table.specs.Pieces.{of_weight, weigh, in_vessel, held}
+use Rattle.table.specs.Pieces.{of_weight, weigh, if_any, in_vessel, held}
 use Rattle.sharing.specs.Sharing.{shares}
 use Rattle.taking.specs.declared.Move.{Move}
 use Rattle.taking.specs.Taken.{Taken, stop, one_whole}
@@ -42,3 +42,12 @@ giving (g ∷ gs) (p ∷ ps) = gives g p (giving gs ps)
 -- What is taken of a stirred vessel that has more than is wanted.
 abbrev pub stirred : Move → List Piece → Taken
 stirred x ps = giving (gifts x ps) ps
+
+-- The same in other words: what is left of each piece, and what each gives, is a piece where it has any weight.
+unfoldable pub left_of : List ℕ → List Piece → List Piece
+left_of (g ∷ gs) (p ∷ ps) = if_any (of_weight (p.weight - g) p) ++ left_of gs ps
+left_of gs ps = []
+
+unfoldable pub given_by : List ℕ → List Piece → List Piece
+given_by (g ∷ gs) (p ∷ ps) = if_any (of_weight g p) ++ given_by gs ps
+given_by gs ps = []
