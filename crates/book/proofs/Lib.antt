@@ -7,6 +7,7 @@ pub mod Sound
 pub mod Beside
 pub mod HeadLaws
 pub mod Memory
+pub mod Unstirred
 pub mod Known
 pub mod After
 pub mod Lists

@@ -26,7 +26,7 @@ pub data Call : Type 0 where
   set_rule : Setting → Call
   ask : Report → List ℕ → Call
 
--- "The answer carries the number of pieces moved whole, whether one was split, and the weight born."
+-- "The answer carries the number of pieces moved whole, whether one was split, and the weight born"; that mark is now "a count of splits".
 pub record Answer : Type 0 where
   pub whole : ℕ
   pub split : ℕ
