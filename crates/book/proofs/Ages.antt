@@ -5,7 +5,7 @@
 -- under rules 2 and 3, where births no longer follow the order of receipt, on small cases. `one_entry`: births of one vessel at different minutes,
 -- with ages that bring them to the same minute, are one entry of the weigh book.
 -- Assumes nothing.
-use Rattle.std.proofs.Common.{◌≡◌, refl, sym, ◌∙◌, ◌≢◌, List, [], ◌∷◌, map, ℕ, zero, suc, ◌≤◌, ◌<◌, add-one, arith, lt-ltb, le-ltb}
+use Rattle.std.proofs.Common.{◌≡◌, refl, ◌∙◌, ◌≢◌, List, [], ◌∷◌, map, ℕ, zero, suc, ◌≤◌, ◌<◌, add-one, arith, lt-ltb, le-ltb}
 use Rattle.std.proofs.lemmas.Bool.Decides.{nat_tests}
 use native.Mathlib.Nat.{sub-zero}
 use Rattle.table.specs.Table.{pieces_of, flat, places_of}

@@ -18,6 +18,7 @@ pub mod Cases
 pub mod Marked
 pub mod Ages
 pub mod InWords
+pub mod Stirred
 pub mod SecondScale
 pub mod Succession
 pub mod Scale

@@ -4,7 +4,7 @@
 -- The idea: what is picked differs only where the source is no vessel of the book, and there 5 comes first; and the four first rules give at most one piece
 -- more for each transfer.
 -- Assumes nothing.
-use Rattle.std.proofs.Common.{◌≡◌, refl, sym, ap, ◌∙◌, Bool, true, false, cond, List, [], ◌∷◌, ℕ, zero, suc, ◌≤◌, ◌<◌, ◌+◌, arith, T, ltb, length}
+use Rattle.std.proofs.Common.{◌≡◌, refl, sym, ap, ◌∙◌, Bool, true, false, cond, List, [], ◌∷◌, ℕ, zero, suc, ◌≤◌, ◌<◌, arith, T, ltb, length}
 use Rattle.std.proofs.lemmas.Bool.Decides.{nat_tests}
 use Rattle.table.specs.Table.{places_of}
 use Rattle.table.proofs.Table.{length_pieces}
@@ -13,7 +13,7 @@ use Rattle.refusal.specs.Numbers.{Check, ◌if◌, first, if_zero}
 use Rattle.refusal.proofs.Numbers.{named, first_append}
 use Rattle.book.specs.declared.Head.{Head}
 use Rattle.book.specs.declared.Motion.{Motion}
-use Rattle.book.specs.Head.{Book, most_vessels, the_scale, given_rules, adds_up, book_of, open_checks, opens, opening}
+use Rattle.book.specs.Head.{Book, the_scale, given_rules, adds_up, book_of, open_checks, opens, opening}
 use Rattle.book.specs.Motion.{of_book, takes, pieces_after}
 use Rattle.book.specs.Transfer.{transfer_checks, motion_of}
 use Rattle.book.specs.Scale.{lift_checks, lift_motion}

@@ -1,7 +1,7 @@
 -- Laws of the rules that vessels have: those given at opening fit, and each vessel has the book's; rules that fit still do after one is set; from V on
 -- they are rule 0, which is how the scale's pieces are picked, so that what is no vessel has no rule of its own; and each is one of the five.
 -- Assumes nothing.
-use Rattle.std.proofs.Common.{◌≡◌, ◌≢◌, true, List, [], ◌∷◌, ◌++◌, ℕ, ◌-◌, zero, suc, ◌≤◌, ◌<◌, arith, length, get_or, get_or-set_same, get_or-set_other, set, take, drop, replicate}
+use Rattle.std.proofs.Common.{◌≡◌, ◌≢◌, true, List, [], ◌∷◌, ◌++◌, ℕ, zero, suc, ◌≤◌, ◌<◌, arith, length, get_or, get_or-set_same, get_or-set_other, set, take, drop, replicate}
 use Rattle.std.proofs.lemmas.Bool.Decides.{nat_tests}
 use Rattle.std.specs.List.{list_all}
 use Rattle.std.proofs.lemmas.List.{drop-replicate, get_or-replicate, length-replicate}

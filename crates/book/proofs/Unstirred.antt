@@ -1,17 +1,16 @@
 -- LISTS THAT NEVER USE RULE 4. A list in which no accepted call sets it makes no pick under it (`first_rules`), from any opening on. The idea: opening gives
 -- one of the four first rules, and only an accepted setting alters a vessel's.
 -- Assumes nothing.
-use Rattle.std.proofs.Common.{◌≡◌, ◌≢◌, refl, sym, ◌∙◌, Bool, true, false, not, ◌&&◌, List, [], ◌∷◌, ℕ, zero, suc, ◌≤◌, arith, eqb, ne_eqb}
+use Rattle.std.proofs.Common.{◌≡◌, refl, Bool, true, false, List, [], ◌∷◌, ℕ, zero, suc, arith, ne_eqb}
 use Rattle.std.specs.List.{list_all}
 use borrow.Author.Tests.{eqb-false}
-use Rattle.taking.specs.Stirring.{stirred_rule}
 use Rattle.book.specs.declared.Head.{Head}
-use Rattle.book.specs.Head.{opening, given_rules}
+use Rattle.book.specs.Head.{opening}
 use Rattle.book.specs.Calls.{Call, post, lift, tip, set_rule, ask}
 use Rattle.book.specs.Memory.{call_on}
-use Rattle.book.specs.Lists.{calls_on, answered, sets_rule, asks_stirred, stirs, sets_stirred, sets_none}
+use Rattle.book.specs.Lists.{calls_on, answered, asks_stirred, stirs, sets_stirred, sets_none}
 use Rattle.book.proofs.RuleLaws.{Unstirred, given_unstirred, set_unstirred}
-use Rattle.book.proofs.Memory.{call_number, refused_memory, rules_kept}
+use Rattle.book.proofs.Memory.{refused_memory, rules_kept}
 use Rattle.book.proofs.HeadLaws.{opening_passed, openable}
 
 -- where no vessel has the rule, no call asks for it

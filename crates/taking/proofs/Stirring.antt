@@ -121,7 +121,11 @@ module _ (x : Move) (ps : List Piece) (more : x.weight < held x.source ps) where
   pub stirred_sum : weight_of (stirred x ps).given ≡ x.weight
   stirred_sum = omega (arith, simp zero-add at i.adds, up_to_none x.weight T, up_to_all x.weight T (omega arith))
 
-  stirred_fair : Fair x.source x.weight ps (stirred x ps)
+  -- the given pieces are whole ones and parts, and nothing is born
+  pub stirred_counts : (length (stirred x ps).given ≡ (stirred x ps).whole + (stirred x ps).split) × ((stirred x ps).born ≡ 0)
+  stirred_counts = (i.counted, i.unborn)
+
+  pub stirred_fair : Fair x.source x.weight ps (stirred x ps)
   stirred_fair = record {
     parts = i.parts;
     makes_up = omega (arith, stirred_sum, i.unborn);
