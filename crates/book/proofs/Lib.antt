@@ -24,5 +24,6 @@ pub mod Succession
 pub mod Scale
 pub mod Load
 pub mod Mixed
+pub mod StirredCases
 pub mod Edges
 pub mod ReportLaws

@@ -18,10 +18,10 @@ use Rattle.book.specs.Memory.{number_of, book_checks, call_on}
 use Rattle.book.specs.Lists.{Entry, Journal, calls_on}
 use Rattle.book.proofs.Cases.{Case, called, seen, pieces}
 
-abbrev give : ℕ → ℕ → ℕ → ℕ → ℕ → Call
+abbrev pub give : ℕ → ℕ → ℕ → ℕ → ℕ → Call
 give s d t q age = post (transfer_of s d t q age)
 
-abbrev set_to : ℕ → ℕ → Call
+abbrev pub set_to : ℕ → ℕ → Call
 set_to v rule = set_rule (setting_of v rule)
 
 -- four lots of vessel 0, received in this order: born in minutes 5, 2, 8 and 6
