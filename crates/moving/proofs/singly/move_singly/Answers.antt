@@ -1,8 +1,8 @@
--- `move_pieces` meets its contract: what the order and its plan promise tells whether there is room, and if so, what applying the
+-- `move_singly` meets its contract: what the order and its plan promise tells whether there is room, and if so, what applying the
 -- plan leaves is what is asked (proofs/Moving.antt).
 use Rattle.std.proofs.Common.{rules}
 use Rattle.moving.proofs.Moving.{move_refused, move_room, move_applicable, move_applied}
-use Rattle.moving.proofs.move_pieces.Goals as goal
+use Rattle.moving.proofs.singly.move_singly.Goals as goal
 
 pub returns-then-is_full : goal.returns-then-is_full
 returns-then-is_full c = search (rules, move_refused)
