@@ -55,5 +55,3 @@ module _ {m : Move} {T : ℕ} {all : List Piece} (asked : Stirrable m T all) whe
     pub share_end : left ≡ [] → SharedOut m all gs splits
     unfolding shares giving
     share_end e = grind (arith, append-nil (take i gs))
-
-pub ruleset sharing_out = (share_start, share_other, share_grows, share_whole, share_split, share_end)

@@ -20,7 +20,6 @@ pub struct Parted {
 
 // What each piece gives is put down, 0 for a piece of another holder: what falls to all pieces of the source up to it, less what fell to those before it.
 // The answer is how many pieces are split.
-#[tactic(auto, using(crate::proofs::SharedOut::sharing_out))]
 fn share_out(pieces: &Pieces, m: Move, balance: u32, noted: &mut [u64]) -> usize
     requires { (length pieces.now ≤ most_places) × (length noted.old ≡ most_places) × Stirrable m balance pieces.now }
     ensures { SharedOut m pieces.now noted.new result }
@@ -46,7 +45,6 @@ fn share_out(pieces: &Pieces, m: Move, balance: u32, noted: &mut [u64]) -> usize
 }
 
 // Each piece gives what is put down for it: what is left of the pieces closes up, and what they give is lifted, with its new holder.
-#[tactic(auto, using(crate::proofs::Parted::parting))]
 fn part(
     table: &mut [u32],
     n: usize,
@@ -65,19 +63,14 @@ fn part(
         if gift == 0 {
             put_piece(table, n, stay, p);
             stay += 1;
-        } else if gift == p.weight {
-            put_piece(lifted, LIFTED_PLACES, go, p.hand_to(destination));
-            go += 1;
-        } else {
+            continue;
+        }
+        let part = p.of_weight(gift).hand_to(destination);
+        put_piece(lifted, LIFTED_PLACES, go, part);
+        go += 1;
+        if gift != p.weight {
             put_piece(table, n, stay, p.of_weight(p.weight - gift));
             stay += 1;
-            put_piece(
-                lifted,
-                LIFTED_PLACES,
-                go,
-                p.of_weight(gift).hand_to(destination),
-            );
-            go += 1;
         }
     }
     Parted { stay, go }
