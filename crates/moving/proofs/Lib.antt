@@ -4,3 +4,4 @@ pub mod Applying
 pub mod Moving
 pub mod SharedOut
 pub mod Parted
+pub mod Stirred

@@ -1,6 +1,5 @@
 // A stirred source: each of its pieces gives a share. What each gives is found first, and the table is written only if there is room for the splits.
-ghost use Rattle.std.specs.Prelude.{◌≡◌, ◌≤◌, ◌<◌, length};
-ghost use Rattle.table.specs.Pieces.{held};
+ghost use Rattle.std.specs.Prelude.{◌≡◌, ◌≤◌, length};
 ghost use Rattle.table.specs.Table.{most_places, pieces_of};
 ghost use Rattle.taking.specs.Stirring.{stirred};
 ghost use Rattle.moving.specs.Applied.{Ready, Moves};
@@ -77,7 +76,6 @@ fn part(
 }
 
 // Moves the weight, which is less than the source's balance, as a stirred source gives it, or answers `None`.
-#[tactic(auto, using(table::proofs::Table::length_pieces))]
 pub fn move_stirred(
     table: &mut [u32],
     n: usize,
@@ -86,7 +84,7 @@ pub fn move_stirred(
     m: Move,
     work: &mut Workspace,
 ) -> Option<Applied>
-    requires { Ready n places m table.old × (balance ≡ held m.source (pieces_of n table.old)) × (m.weight < balance) }
+    requires { Ready n places m table.old × Stirrable m balance (pieces_of n table.old) }
     ensures { Moves places m (stirred m (pieces_of n table.old)) table.old table.new result }
 {
     let pieces = Pieces::of(table, n);
