@@ -1,19 +1,21 @@
 -- A stirred source whole: the gifts tell how many are split, so whether there is room, and the parted pieces with what they give behind them are what is handed over.
 -- Of any gifts: nothing is born, each split is a piece more, and what is given goes whole or is split. No piece gives more than it has.
 -- Assumes nothing.
-use Rattle.std.proofs.Common.{◌≡◌, refl, sym, ap, ◌∙◌, ◌≢◌, Bool, true, false, None, Some, List, [], ◌∷◌, ◌++◌, append-nil, map, ℕ, zero, suc, ◌+◌, ◌-◌, ◌*◌, ◌≤◌, ◌<◌, arith, length, get_or, take, drop, length-append, ltb, lt-ltb, le-ltb}
+use Rattle.std.proofs.Common.{◌≡◌, refl, sym, ap, ◌∙◌, ◌≢◌, Bool, true, false, Option, None, Some, List, [], ◌∷◌, ◌++◌, append-nil, map, ℕ, zero, suc, ◌+◌, ◌-◌, ◌*◌, ◌≤◌, ◌<◌, arith, length, get_or, take, drop, length-append, ltb, lt-ltb, le-ltb}
 use Rattle.std.proofs.lemmas.Bool.Decides.{nat_tests}
 use lib.ListN.{length-map}
 use Rattle.sharing.specs.Sharing.{shares}
 use Rattle.sharing.proofs.Shares.{share_fits}
 use Rattle.table.specs.declared.Piece.{Piece}
-use Rattle.table.specs.Pieces.{no_piece, hand_to, weigh, in_vessel}
+use Rattle.table.specs.Pieces.{no_piece, hand_to, weigh, in_vessel, held}
 use Rattle.table.specs.Table.{most_places, pieces_of, lay, over}
 use Rattle.table.proofs.Table.{length_pieces, same_behind}
 use Rattle.taking.specs.declared.Move.{Move}
 use Rattle.taking.specs.Taken.{Taken}
-use Rattle.taking.specs.Taking.{handed}
-use Rattle.taking.specs.Stirring.{weights_in, gifts, gives, giving, stirred}
+use Rattle.taking.specs.Selection.{as_received}
+use Rattle.taking.specs.Taking.{handed, singly, taken}
+use Rattle.taking.proofs.Stirring.{taken_singly, taken_stirred, taken_out}
+use Rattle.taking.specs.Stirring.{stirred_rule, weights_in, gifts, gives, giving, stirred}
 use Rattle.moving.specs.declared.Applied.{Applied}
 use Rattle.moving.specs.declared.stirring.Parted.{Parted}
 use Rattle.moving.specs.Applied.{full, accepted, applied, table_left, lifted_places, Ready, Moves}
@@ -113,3 +115,15 @@ module _ {n places T : ℕ} {m : Move} {t : List ℕ} (ready : Ready n places m 
             answer = rw (free, size, whole, ← counted, (counts (gifts m ps) ps).0) refl;
             table = et ∙ rw (free, size, put, stands, goes, sum, behind) refl;
           }
+
+-- By the source's rule: a stirred source that has more than is wanted gives from every piece, and any other gives one piece after the other.
+module _ {places rule T : ℕ} {m : Move} (ps : List Piece) (all : T ≡ held m.source ps) {t t' : List ℕ} {o : Option Applied} where
+  pub by_rule : rule ≢ stirred_rule → Moves places m (singly rule m ps) t t' o → Moves places m (taken rule m ps) t t' o
+  by_rule first moves = rw (taken_singly rule m ps first) moves
+
+  module _ (stir : rule ≡ stirred_rule) where
+    pub from_all : m.weight < T → Moves places m (stirred m ps) t t' o → Moves places m (taken rule m ps) t t' o
+    from_all more moves = rw (stir, taken_stirred m ps (rw all at more)) moves
+
+    pub all_out : T ≤ m.weight → Moves places m (singly as_received m ps) t t' o → Moves places m (taken rule m ps) t t' o
+    all_out none moves = rw (stir, taken_out m ps (rw all at none)) moves
