@@ -1,7 +1,7 @@
 -- The pieces are parted by what each gives. The first i have been; what `giving` leaves of the others completes what it leaves of all, in the table and among
 -- the lifted. The places from i on are as they were, since no more pieces stay than were seen.
 -- Assumes nothing.
-use Rattle.std.proofs.Common.{◌≡◌, refl, sym, ap, ◌∙◌, ◌≢◌, List, [], ◌∷◌, ◌++◌, append_assoc, append-nil, map, ℕ, suc, ◌+◌, ◌-◌, ◌*◌, ◌≤◌, ◌<◌, add-one, add-zero, arith, length, get_or, drop, get_or-drop, drop_of_length-le, drop-cons, drop-set-lt}
+use Rattle.std.proofs.Common.{◌≡◌, refl, ◌∙◌, ◌≢◌, List, [], ◌∷◌, ◌++◌, append_assoc, append-nil, map, ℕ, suc, ◌+◌, ◌-◌, ◌*◌, ◌≤◌, ◌<◌, add-one, arith, get_or, drop, drop_of_length-le, drop-cons, drop-set-lt}
 use Rattle.std.proofs.lemmas.Bool.Decides.{nat_tests}
 use Rattle.table.specs.declared.Piece.{Piece}
 use Rattle.table.specs.Pieces.{no_piece, of_weight, hand_to}
@@ -9,9 +9,8 @@ use Rattle.table.specs.Table.{pieces_of, piece_in, put_in}
 use Rattle.table.proofs.Table.{length_pieces, put_pieces, put_behind, put_more}
 use Rattle.taking.specs.Taken.{Taken}
 use Rattle.taking.specs.Stirring.{gives, giving}
-use Rattle.moving.specs.declared.stirring.Parted.{Parted}
 use Rattle.moving.specs.Applied.{lifted_places}
-use Rattle.moving.specs.Stirring.{Affordable, Partible, Parts}
+use Rattle.moving.specs.Stirring.{Partible, Parts}
 
 -- what the pieces from place i on give
 abbrev pub from : ℕ → List ℕ → List Piece → Taken

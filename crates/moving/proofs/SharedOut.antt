@@ -1,9 +1,9 @@
 -- What each piece gives is put down in one pass. What is put down, followed by the shares of the pieces left, is what all give, and likewise for the splits.
 -- Assumes nothing.
-use Rattle.std.proofs.Common.{◌≡◌, refl, sym, ap, ◌∙◌, ◌≢◌, ◌⊎◌, List, [], ◌∷◌, ◌++◌, append_assoc, append-nil, ℕ, suc, ◌+◌, ◌-◌, ◌*◌, ◌≤◌, ◌<◌, add-one, add-zero, arith, length, set, take}
+use Rattle.std.proofs.Common.{◌≡◌, ◌≢◌, ◌⊎◌, List, [], ◌∷◌, ◌++◌, append-nil, ℕ, ◌+◌, ◌-◌, ◌≤◌, ◌<◌, add-one, arith, length, set, take}
 use Rattle.std.proofs.lemmas.Bool.Decides.{nat_tests}
 use Rattle.std.proofs.lemmas.Grind.{common_steps}
-use Rattle.sharing.specs.Sharing.{up_to, share, shares}
+use Rattle.sharing.specs.Sharing.{up_to, shares}
 use Rattle.sharing.proofs.Shares.{up_to_none, share_none, share_adds}
 use Rattle.table.specs.declared.Piece.{Piece}
 use Rattle.table.specs.Pieces.{held}

@@ -1,24 +1,24 @@
 -- A stirred source whole: the gifts tell how many are split, so whether there is room, and the parted pieces with what they give behind them are what is handed over.
 -- Of any gifts: nothing is born, each split is a piece more, and what is given goes whole or is split. No piece gives more than it has.
 -- Assumes nothing.
-use Rattle.std.proofs.Common.{◌≡◌, refl, sym, ap, ◌∙◌, ◌≢◌, Bool, true, false, Option, None, Some, List, [], ◌∷◌, ◌++◌, append-nil, map, ℕ, zero, suc, ◌+◌, ◌-◌, ◌*◌, ◌≤◌, ◌<◌, arith, length, get_or, take, drop, length-append, ltb, lt-ltb, le-ltb}
+use Rattle.std.proofs.Common.{◌≡◌, refl, ap, ◌∙◌, ◌≢◌, true, false, Option, None, Some, List, [], ◌∷◌, ◌++◌, append-nil, map, ℕ, zero, suc, ◌+◌, ◌-◌, ◌*◌, ◌≤◌, ◌<◌, arith, length, take, length-append, lt-ltb, le-ltb}
 use Rattle.std.proofs.lemmas.Bool.Decides.{nat_tests}
 use lib.ListN.{length-map}
 use Rattle.sharing.specs.Sharing.{shares}
 use Rattle.sharing.proofs.Shares.{share_fits}
 use Rattle.table.specs.declared.Piece.{Piece}
-use Rattle.table.specs.Pieces.{no_piece, hand_to, weigh, in_vessel, held}
-use Rattle.table.specs.Table.{most_places, pieces_of, lay, over}
+use Rattle.table.specs.Pieces.{hand_to, weigh, in_vessel, held}
+use Rattle.table.specs.Table.{most_places, pieces_of, over}
 use Rattle.table.proofs.Table.{length_pieces, same_behind}
 use Rattle.taking.specs.declared.Move.{Move}
 use Rattle.taking.specs.Taken.{Taken}
 use Rattle.taking.specs.Selection.{as_received}
 use Rattle.taking.specs.Taking.{handed, singly, taken}
 use Rattle.taking.proofs.Stirring.{taken_singly, taken_stirred, taken_out}
-use Rattle.taking.specs.Stirring.{stirred_rule, weights_in, gifts, gives, giving, stirred}
+use Rattle.taking.specs.Stirring.{stirred_rule, weights_in, gifts, giving, stirred}
 use Rattle.moving.specs.declared.Applied.{Applied}
 use Rattle.moving.specs.declared.stirring.Parted.{Parted}
-use Rattle.moving.specs.Applied.{full, accepted, applied, table_left, lifted_places, Ready, Moves}
+use Rattle.moving.specs.Applied.{full, applied, table_left, lifted_places, Ready, Moves}
 use Rattle.moving.specs.Stirring.{Stirrable, SharedOut, Affordable, Partible, Parts}
 
 -- any gifts

@@ -92,13 +92,7 @@ pub fn move_stirred(
     if places - n < splits {
         return None;
     }
-    let parted = part(
-        table,
-        n,
-        m.destination,
-        &work.keys[..n],
-        &mut work.lifted,
-    );
+    let parted = part(table, n, m.destination, &work.keys[..n], &mut work.lifted);
     closing::append(table, parted.stay, &work.lifted, parted.go);
     Some(Applied {
         whole: (parted.go - splits) as u32,

@@ -14,8 +14,9 @@ part-parted-requires c = stir_partible c.requires.0 c.requires.1 c.of-pieces.ens
 
 pub append-requires : goal.append-requires
 append-requires c = (
-    stir_room c.requires.0 c.requires.1 c.of-pieces.ensures c.share_out-splits.ensures (search rules) (search rules) c.part-parted.ensures (search rules),
-    stir_lifted c.requires.0 c.requires.1 c.of-pieces.ensures c.share_out-splits.ensures (search rules) (search rules) c.part-parted.ensures (search rules))
+  stir_room c.requires.0 c.requires.1 c.of-pieces.ensures c.share_out-splits.ensures (search rules) (search rules) c.part-parted.ensures (search rules),
+  stir_lifted c.requires.0 c.requires.1 c.of-pieces.ensures c.share_out-splits.ensures (search rules) (search rules) c.part-parted.ensures (search rules),
+)
 
 pub overflow_sub-result : goal.overflow_sub-result
 overflow_sub-result c = stir_few c.requires.0 c.requires.1 c.of-pieces.ensures c.share_out-splits.ensures (search rules) (search rules) c.part-parted.ensures

@@ -1,5 +1,5 @@
 -- `stirring::part`: what its invariant leaves to show.
-use Rattle.std.proofs.Common.{rules, arith, List, ℕ}
+use Rattle.std.proofs.Common.{rules}
 use Rattle.moving.proofs.Parted.{part_start, gift_fits, part_stays, part_whole, part_split, part_end}
 use Rattle.moving.proofs.stirring.part.Goals as goal
 use Rattle.moving.proofs.stirring.part.Goals.{then-gift-p, else-gift-p}
@@ -20,7 +20,7 @@ pub loop-i-preserved : goal.loop-i-preserved
 loop-i-preserved c = elim c.if-gift-p.branch [
   | then-gift-p w ↦ rw (w.table-is, w.stay-is) (part_split c.requires c.loop-i.invariant c.loop-i-test.true c.piece_at-p.ensures (search rules) (search rules) (search rules) (search rules))
   | else-gift-p w ↦ rw (w.table-is, w.stay-is) (part_whole c.requires c.loop-i.invariant c.loop-i-test.true c.piece_at-p.ensures (search rules) (search rules) (search rules))
-  ]
+]
 
 pub returns : goal.returns
 returns c = search (rules, part_end)
