@@ -125,10 +125,10 @@ never_set (c ∷ cs) h t unset counted = go (sets_rule c) refl (never_set cs)
         rw (← (as_before h t unset counted c e)) (ap (noted c o) (rest o.head o.table (still_unset h t unset counted c e) (still_counted h t unset counted c)))
 
 -- so from any opening on
-pub opened_unset : (rule size : ℕ) → let h = (opening rule size).head in h.rules ≡ given_rules h.rule h.vessels
+pub opened_unset : (rule size : ℕ) → let h = (opening rule size).head in (h.rules ≡ given_rules h.rule h.vessels) × (h.pieces ≤ h.accepted)
 unfolding opening
 opened_unset rule size = go (first (open_checks rule size))
   where
-    go : (n : ℕ) → let h = (opens rule size n).head in h.rules ≡ given_rules h.rule h.vessels
-    go zero = refl
-    go (suc n) = refl
+    go : (n : ℕ) → let h = (opens rule size n).head in (h.rules ≡ given_rules h.rule h.vessels) × (h.pieces ≤ h.accepted)
+    go zero = (refl, omega arith)
+    go (suc n) = (refl, omega arith)

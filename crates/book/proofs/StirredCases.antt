@@ -11,10 +11,10 @@ use Rattle.taking.specs.Stirring.{giving}
 use Rattle.taking.specs.Taking.{take_up_to, taken}
 use Rattle.book.specs.Head.{tab, balances_of, every, same, all_zero, rules_fit, adds_up, opening}
 use Rattle.book.specs.Motion.{takes}
-use Rattle.book.specs.Transfer.{transfer_of, transfer_checks}
+use Rattle.book.specs.Transfer.{transfer_checks}
 use Rattle.book.specs.Scale.{lift_of, tip_of, lift_checks, tip_checks}
 use Rattle.book.specs.Setting.{setting_checks}
-use Rattle.book.specs.Calls.{Call, post, lift, tip}
+use Rattle.book.specs.Calls.{Call, lift, tip}
 use Rattle.book.specs.Memory.{number_of, book_checks, call_on}
 use Rattle.book.specs.Lists.{Journal, calls_on}
 use Rattle.book.proofs.Cases.{Case, called, seen, pieces, answers}

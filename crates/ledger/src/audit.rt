@@ -10,9 +10,9 @@ ghost use Rattle.ledger.specs.Audit.{covers, drained};
 use super::opening;
 use book::{HOLDERS, Head, MOST_VESSELS, SCALE};
 use refusal::Refusal;
-use taking::STIRRED;
 use table::Piece;
 use table::reading::Pieces;
+use taking::STIRRED;
 
 // What the pieces of a book have to fit: its count of vessels, and its last minute.
 #[derive(Clone, Copy, Debug, PartialEq, Eq)]
