@@ -47,7 +47,7 @@ module _ {n d i j k : ℕ} {gs t₀ t l : List ℕ} (asked : Partible n gs t₀)
     now =
         let there = drop-cons (pieces_of n t₀) i no_piece (rw length_pieces h) in
         let gift = drop-cons gs i 0 (omega (arith, asked.gifts)) in
-        rw (there, gift, same) refl
+        rw (there, gift, same)
 
     -- what lies behind place i is as it was, also where a piece is put before
     ahead : drop (suc i) (pieces_of n t) ≡ drop (suc i) (pieces_of n t₀)
