@@ -17,8 +17,8 @@ pub struct Parted {
     pub go: usize,
 }
 
-// What each piece gives is put down, 0 for a piece of another holder: what falls to all pieces of the source up to it, less what fell to those before it.
-// The answer is how many pieces are split.
+// What each piece gives is put down, 0 for a piece of another holder: what falls to the source's pieces up to it, less what fell to those before it.
+// So there is one division for each. The answer is how many pieces are split.
 fn share_out(pieces: &Pieces, m: Move, balance: u32, noted: &mut [u64]) -> usize
     requires { (length pieces.now ≤ most_places) × (length noted.old ≡ most_places) × Stirrable m balance pieces.now }
     ensures { SharesOut m pieces.now noted.new result }
