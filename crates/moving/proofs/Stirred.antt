@@ -19,7 +19,7 @@ use Rattle.taking.specs.Stirring.{stirred_rule, weights_in, gifts, giving, stirr
 use Rattle.moving.specs.declared.Applied.{Applied}
 use Rattle.moving.specs.declared.stirring.Parted.{Parted}
 use Rattle.moving.specs.Applied.{full, applied, table_left, lifted_places, Ready, Moves}
-use Rattle.moving.specs.Stirring.{Stirrable, SharedOut, Affordable, Partible, Parts}
+use Rattle.moving.specs.Stirring.{Stirrable, SharesOut, Affordable, Partible, Parts}
 
 -- any gifts
 abbrev Counts : List Piece → Taken → Type 0
@@ -52,7 +52,7 @@ module _ {n places T : ℕ} {m : Move} {t : List ℕ} (ready : Ready n places m 
   pub stir_places : length read ≤ most_places
   stir_places = omega (arith, ap length read_is, length_pieces n t, ready.pieces, ready.most)
 
-  module _ {gs : List ℕ} {splits : ℕ} (out : SharedOut m read gs splits) where
+  module _ {gs : List ℕ} {splits : ℕ} (out : SharesOut m read gs splits) where
     given : take n gs ≡ gifts m ps
     given = rw (read_is, length_pieces) at out.noted
 
