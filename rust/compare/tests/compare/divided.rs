@@ -12,9 +12,9 @@ use std::collections::BTreeMap;
 #[derive(Debug, Default)]
 struct Covered {
     /// Accepted ones by the rule of their source: even, with a split, with a birth.
-    even: [u32; 4],
-    splits: [u32; 4],
-    births: [u32; 4],
+    even: [u32; 5],
+    splits: [u32; 5],
+    births: [u32; 5],
     /// Refused as the lift was, by its number.
     by_lift: BTreeMap<u32, u32>,
     /// Refused as the tip was, by its number.

@@ -17,7 +17,7 @@ struct Covered {
     /// Lifts that had to wait.
     waiting: u32,
     /// Tips into a vessel that holds something and received some meanwhile, by the vessel's rule.
-    behind: [u32; 4],
+    behind: [u32; 5],
     /// Of those, into the vessel where the load came from.
     back: u32,
 }

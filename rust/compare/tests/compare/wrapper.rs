@@ -120,7 +120,7 @@ fn rules() {
     for round in 0..6_000 {
         let (mut head, table) = any_book(&mut random, round);
         let vessel = near(&mut random, &[0, head.vessels]);
-        let rule = near(&mut random, &[0, 3]);
+        let rule = near(&mut random, &[0, 4]);
         let bare = raw::set_rule(head, &table, vessel, rule);
         let result = lumchaki::set_rule(&mut head, &table, vessel, rule);
         assert_eq!(seen.number(&result), bare.number);
