@@ -24,6 +24,8 @@ mod scale_rests;
 mod second_scale;
 mod sheet_order;
 mod sheets;
+mod stirred;
+mod stirred_limits;
 mod stops;
 mod vector_lines;
 mod vectors;
