@@ -140,13 +140,12 @@ impl Stirs {
         self.between += u64::from(behind.any(Share::split));
     }
 
-    /// Fails unless each count of what was accepted or refused is so high.
+    /// Fails unless each count of transfers from stirred vessels that hold something is so high.
     pub fn expect(&self, at_least: u64) {
         let counts = [
             self.parts,
             self.all,
             self.more,
-            self.empty,
             self.unsplit,
             self.several,
             self.mixed,
@@ -157,7 +156,6 @@ impl Stirs {
             self.full,
             self.crowded,
             self.one_short,
-            self.outnumbered,
         ];
         assert!(counts.iter().all(|&c| c >= at_least), "{self:?}");
     }

@@ -9,6 +9,7 @@ mod forecast;
 use calls::{Engine, STIRRED};
 use compare::{call_list, room, subjects, with_settings, Call, Pair, Random};
 use covered::Covered;
+pub use followed::check_sums;
 use followed::{follow, Ended, Followed};
 use forecast::check_forecast;
 

@@ -124,6 +124,7 @@ fn lifts_and_tips_of(subject: &'static dyn Engine) {
     ));
     stirs.expect(30);
     assert!(stirs.parts > 400 && stirs.lifts > 1_000 && stirs.beside > 20);
+    assert!(stirs.empty > 200 && stirs.outnumbered > 1_000);
     moves.expect(500);
     tips.expect(200);
     ages.expect_of_lifts(&[0, 5, 7, 8, 10, 11, 22], 30);

@@ -60,6 +60,7 @@ impl Covered {
         ));
         stirs.expect(30);
         assert!(stirs.parts > 2_000 && stirs.lifts > 1_500 && stirs.beside > 500);
+        assert!(stirs.empty > 2_000 && stirs.outnumbered > 2_000);
         assert!(self.stirred > 1_000 && self.outnumbered > 200 && self.stirred_apart > 1_000);
         assert!(self.lists >= 1_000 && self.transfers > 50_000);
         assert!(self.lifts > 20_000 && self.tips > 20_000);

@@ -10,7 +10,7 @@ use std::collections::{BTreeMap, BTreeSet};
 
 /// The pieces, in every vessel and on the scale, sum to what the weigh book has there; so do the
 /// births.
-fn check_sums(head: &Head, table: &[u32], weighed: &WeighBook) {
+pub fn check_sums(head: &Head, table: &[u32], weighed: &WeighBook) {
     let mut weights = vec![0; head.vessels as usize];
     let mut scale = 0;
     let mut births = BTreeMap::new();
