@@ -10,7 +10,7 @@ pub struct Shares {
 
 /// What each piece gives to a transfer of less than its source holds: of the running sum of the weights so
 /// much, rounded down, less what the pieces before it gave. A piece of another holder gives nothing.
-pub fn share(pieces: &[[u32; 4]], t: &Transfer, balance: u32, gifts: &mut [u32; PLACES]) -> Shares {
+pub fn share(pieces: &[[u32; 4]], t: &Transfer, balance: u32, gifts: &mut [u64; PLACES]) -> Shares {
     let (mut sum, mut given) = (0, 0);
     let mut shares = Shares { whole: 0, split: 0 };
     for (p, gift) in pieces.iter().zip(gifts) {
@@ -18,13 +18,14 @@ pub fn share(pieces: &[[u32; 4]], t: &Transfer, balance: u32, gifts: &mut [u32; 
         if p[0] != t.source {
             continue;
         }
-        sum += u64::from(p[3]);
+        let weight = u64::from(p[3]);
+        sum += weight;
         // Neither factor is above TOP.
         let up_to = u64::from(t.weight) * sum / u64::from(balance);
-        *gift = (up_to - given) as u32;
+        *gift = up_to - given;
         given = up_to;
-        shares.whole += usize::from(*gift == p[3]);
-        shares.split += usize::from(*gift > 0 && *gift < p[3]);
+        shares.whole += usize::from(*gift == weight);
+        shares.split += usize::from(0 < *gift && *gift < weight);
     }
     shares
 }
@@ -34,13 +35,13 @@ pub fn share(pieces: &[[u32; 4]], t: &Transfer, balance: u32, gifts: &mut [u32; 
 pub fn part(
     pieces: &mut [[u32; 4]],
     destination: u32,
-    gifts: &[u32; PLACES],
+    gifts: &[u64; PLACES],
     joining: &mut [[u32; 4]; PLACES],
 ) -> (usize, usize) {
     let (mut stay, mut given) = (0, 0);
     for place in 0..pieces.len() {
         let [holder, origin, birth, weight] = pieces[place];
-        let gift = gifts[place];
+        let gift = gifts[place] as u32; // no more than its weight
         joining[given] = [destination, origin, birth, gift];
         given += usize::from(gift > 0);
         pieces[stay] = [holder, origin, birth, weight - gift];
