@@ -1,8 +1,8 @@
 //! Stirred vessels on random books. Of a transfer or lift each piece's gift is told by its birth, which no
 //! other piece has, and held to the exact fraction. Lists of calls are in `stirred_lists`.
 
-use calls::{Engine, Head, Piece, Transfer, Transferred, SCALE, STIRRED, TOP};
-use compare::{balance_of, room, shares, subjects, Pair, Random};
+use calls::{Engine, Head, Piece, Refusal, Transfer, Transferred, SCALE, STIRRED, TOP, VESSELS};
+use compare::{balance_of, book, loaded_book, room, shares, subjects, transfer_for, Pair, Random};
 use std::collections::HashMap;
 
 /// What transfers and lifts of less than a stirred vessel holds came to.
@@ -226,5 +226,44 @@ fn draws_of(subject: &'static dyn Engine) {
 fn shares_within_a_gram() {
     for subject in subjects() {
         draws_of(subject);
+    }
+}
+
+/// A book adds up whatever it accepted, also if that is less than it has pieces, and all calls give the same.
+#[test]
+fn any_count_of_accepted() {
+    for subject in subjects() {
+        let mut pair = Pair::new(subject);
+        let mut random = Random::new(109);
+        let mut fewer = 0;
+        for round in 0..600 {
+            let length = random.one_of(&[4, 9, 17, 43, 120]);
+            let of = if round % 2 == 0 { book } else { loaded_book };
+            let (head, table) = of(&mut random, round % 4, length);
+            let t = transfer_for(&mut random, &head, &table);
+            let mut numbers = None;
+            for accepted in [0, head.pieces.saturating_sub(1), head.pieces, TOP - 1] {
+                let head = Head { accepted, ..head };
+                let mut room = vec![0; VESSELS * VESSELS];
+                let given = [
+                    pair.set_rule(head, &table, t.source, STIRRED).number,
+                    pair.transfer(head, &mut table.clone(), t).number,
+                    pair.lift(head, &mut table.clone(), t.lift()).number,
+                    pair.tip(head, &mut table.clone(), t.tip()).number,
+                    pair.held(head, &table, t.source, &mut room).number,
+                    pair.spread(head, &table, 0, (0, TOP), &mut room).number,
+                    pair.whole(head, &table, &mut room).number,
+                ];
+                assert!(!given.contains(&Refusal::BookOff.number()), "{head:?}");
+                assert_eq!(*numbers.get_or_insert(given), given, "{head:?} {t:?}");
+                fewer += u32::from(accepted < head.pieces);
+            }
+        }
+        pair.tally
+            .print(&format!("accepted, {} {fewer} fewer", pair.label()));
+        assert!(fewer > 1_000 && pair.stirs.outnumbered > 500);
+        for call in ["set rule", "transfer", "lift", "tip", "held", "whole"] {
+            assert!(pair.tally.count(call, 0) > 300, "{call}");
+        }
     }
 }
