@@ -261,7 +261,7 @@ fn any_count_of_accepted() {
         }
         pair.tally
             .print(&format!("accepted, {} {fewer} fewer", pair.label()));
-        assert!(fewer > 1_000 && pair.stirs.outnumbered > 500);
+        assert!(fewer > 700 && pair.stirs.outnumbered > 300);
         for call in ["set rule", "transfer", "lift", "tip", "held", "whole"] {
             assert!(pair.tally.count(call, 0) > 300, "{call}");
         }
