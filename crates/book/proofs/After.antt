@@ -60,7 +60,6 @@ fresh places rule size e =
       some_vessel = o.some_vessels;
       vessels_fit = o.few_vessels;
       fits = omega arith;
-      counted = omega arith;
       rules_known = given_fit rule size o.rule_known;
       sound = done;
     }

@@ -1,10 +1,12 @@
 -- THE AGE OF WHAT IS BORN. `age_zero`: a transfer of age 0 gives and leaves what the transfer without an age gave and left, on any table and any
--- head with nothing on the scale, whose rules were never set; `age_zero_weighed`: and so it is to the weigh book, whatever is on its scale.
+-- head with nothing on the scale, whose rules were never set, with no more pieces than accepted transfers; `age_zero_weighed`: and so it is to the weigh
+-- book, whatever is on its scale.
 -- `before_time`: past 5 to 8 an age above the minute is 21, whatever the balances are, so also where nothing would be born. `aged`: what ages do
 -- under rules 2 and 3, where births no longer follow the order of receipt, on small cases. `one_entry`: births of one vessel at different minutes,
 -- with ages that bring them to the same minute, are one entry of the weigh book.
 -- Assumes nothing.
-use Rattle.std.proofs.Common.{◌≡◌, refl, sym, ◌∙◌, ◌≢◌, List, [], ◌∷◌, map, ℕ, zero, suc, ◌≤◌, ◌<◌, add-one, arith, lt-ltb, le-ltb}
+use Rattle.std.proofs.Common.{◌≡◌, refl, ◌∙◌, ◌≢◌, List, [], ◌∷◌, map, ℕ, zero, suc, ◌≤◌, ◌<◌, add-one, arith, lt-ltb, le-ltb}
+use Rattle.std.proofs.lemmas.Bool.Decides.{nat_tests}
 use native.Mathlib.Nat.{sub-zero}
 use Rattle.table.specs.Table.{pieces_of, flat, places_of}
 use Rattle.taking.specs.Selection.{precedes}
@@ -27,23 +29,24 @@ use Rattle.book.proofs.OneRule.{same_book, former_split, as_before}
 use Rattle.book.proofs.Former.{bare_book}
 use Rattle.book.proofs.Cases.{Case, worked, seen, pieces}
 
-module _ (h : Head) (t : List ℕ) (s d m q : ℕ) (z : h.scale ≡ 0) (unset : h.rules ≡ given_rules h.rule h.vessels) where
+module _ (h : Head) (t : List ℕ) (s d m q : ℕ) (z : h.scale ≡ 0) (unset : h.rules ≡ given_rules h.rule h.vessels)
+    (counted : h.pieces ≤ h.accepted) where
   own_number : first ((one_rule (post (unaged s d m q))).checks (places_of t) (book_of h t)) ≡ first ((former_meaning s d m q).checks (places_of t) (book_of h t))
   unfolding transfer_checks
   own_number = rw (le-ltb m 0 (omega arith), sub-zero)
 
   same_checks : first (one_rule_checks h t) ≡ first (former_book_checks h t)
   unfolding book_checks
-  same_checks = sym (same_book h t unset) ∙ rw (bare_book h t z unset)
+  same_checks = grind (arith, nat_tests, same_book h t unset counted, bare_book h t z unset)
 
   same_number : one_rule_number h t (post (unaged s d m q)) ≡ former_number h t s d m q
   same_number =
       let former = first_append (former_book_checks h t) ((former_meaning s d m q).checks (places_of t) (book_of h t)) tt in
-      grind (arith, former_split h t unset (post (unaged s d m q)), own_number, same_checks, former)
+      grind (arith, former_split h t unset counted (post (unaged s d m q)), own_number, same_checks, former)
 
   pub age_zero : call_on h t (post (unaged s d m q)) ≡ former_on h t s d m q
   unfolding one_rule_on
-  age_zero = as_before h t unset (post (unaged s d m q)) refl ∙ rw same_number (go (former_number h t s d m q))
+  age_zero = as_before h t unset counted (post (unaged s d m q)) refl ∙ rw same_number (go (former_number h t s d m q))
     where
       go : (n : ℕ) → outcome h t (one_rule (post (unaged s d m q))) n ≡ outcome h t (former_meaning s d m q) n
       go zero = rw sub-zero

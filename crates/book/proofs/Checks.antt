@@ -3,12 +3,12 @@
 -- Assumes nothing.
 use Rattle.std.proofs.Common.{◌≡◌, ◌≢◌, [], ◌∷◌, ℕ, ◌+◌, ◌≤◌, ◌<◌, ltb, eqb, arith}
 use Rattle.std.proofs.lemmas.Bool.Decides.{nat_tests}
+use Rattle.taking.specs.Stirring.{stirred_rule}
 use Rattle.refusal.specs.Numbers.{TOP, ◌if◌, first}
 use Rattle.book.specs.declared.Transfer.{Transfer}
 use Rattle.book.specs.declared.Lift.{Lift}
 use Rattle.book.specs.declared.Tip.{Tip}
 use Rattle.book.specs.declared.Setting.{Setting}
-use Rattle.book.specs.Head.{last_rule}
 use Rattle.book.specs.Motion.{Standing}
 use Rattle.book.specs.Transfer.{transfer_checks}
 use Rattle.book.specs.Scale.{lift_checks, tip_checks}
@@ -55,7 +55,7 @@ tip_fit scale g y e = grind (arith, nat_tests)
 -- the setting of a rule
 pub record SettingFit (size : ℕ) (s : Setting) : Type 0 where
   pub vessel_in : s.vessel < size
-  pub rule_known : s.rule ≤ last_rule
+  pub rule_known : s.rule ≤ stirred_rule
 
 pub setting_fit : (size : ℕ) (s : Setting) → first (setting_checks size s) ≡ 0 → SettingFit size s
 unfolding setting_checks

@@ -85,8 +85,8 @@ edges =
     ∷ book 0 65 0 0 0 [] (9 ∷ 9 ∷ 9 ∷ 9 ∷ []) gives 4
     -- a table of fewer than 4 numbers, before all else
     ∷ book 4 0 0 0 0 [] (9 ∷ 9 ∷ 9 ∷ []) gives 1
-    -- pieces and accepted transfers
-    ∷ book 3 2 1 5 0 (0 ∷ 7 ∷ []) (1 ∷ 0 ∷ 5 ∷ 7 ∷ []) gives 4
+    -- pieces and accepted transfers, which need not be as many
+    ∷ book 3 2 1 5 0 (0 ∷ 7 ∷ []) (1 ∷ 0 ∷ 5 ∷ 7 ∷ []) gives 0
     ∷ book 3 2 1 5 2 (0 ∷ 7 ∷ []) (1 ∷ 0 ∷ 5 ∷ 7 ∷ []) gives 0
     -- a holder, an origin, a birth minute, a weight
     ∷ book 3 2 1 5 1 [] (2 ∷ 0 ∷ 5 ∷ 7 ∷ []) gives 4
@@ -117,18 +117,21 @@ edges =
     ∷ book 3 2 1 5 1 (0 ∷ 7 ∷ 1 ∷ []) (1 ∷ 0 ∷ 5 ∷ 7 ∷ []) gives 4
     -- a vessel's rule, and one from V on
     ∷ ruled 3 (0 ∷ 1 ∷ 3 ∷ replicate 61 0) gives 0
-    ∷ ruled 3 (4 ∷ 0 ∷ 0 ∷ replicate 61 0) gives 4
-    ∷ ruled 3 (0 ∷ 0 ∷ 4 ∷ replicate 61 0) gives 4
+    ∷ ruled 3 (4 ∷ 0 ∷ 4 ∷ replicate 61 0) gives 0
+    ∷ ruled 3 (5 ∷ 0 ∷ 0 ∷ replicate 61 0) gives 4
+    ∷ ruled 3 (0 ∷ 0 ∷ 5 ∷ replicate 61 0) gives 4
     ∷ ruled 3 (0 ∷ TOP ∷ 0 ∷ replicate 61 0) gives 4
     ∷ ruled 3 (0 ∷ 0 ∷ 0 ∷ 1 ∷ replicate 60 0) gives 4
     ∷ ruled 3 (replicate 63 0 ++ (1 ∷ [])) gives 4
     ∷ ruled 64 (replicate 64 3) gives 0
-    ∷ ruled 64 (replicate 63 0 ++ (4 ∷ [])) gives 4
+    ∷ ruled 64 (replicate 64 4) gives 0
+    ∷ ruled 64 (replicate 63 0 ++ (5 ∷ [])) gives 4
     -- checks 5 and 2 of a setting, and their order
     ∷ given 2 3 gives 0
-    ∷ given 0 4 gives 2
+    ∷ given 0 4 gives 0
+    ∷ given 0 5 gives 2
     ∷ given 3 0 gives 5
-    ∷ given 3 4 gives 5
+    ∷ given 3 5 gives 5
     ∷ given 64 0 gives 5
     ∷ given TOP TOP gives 5
     ∷ given 0 TOP gives 2

@@ -1,7 +1,7 @@
--- A BOOK WITH NOTHING ON THE SCALE, whose rules were never set, is document 01's book: `bare_book` shows that it adds up where document 01's did, which
--- knew no scale, let a piece lie in a vessel only, and had no rules of vessels.
+-- A BOOK WITH NOTHING ON THE SCALE, whose rules were never set, is document 01's book: `bare_book` shows that document 01's added up where it does and has
+-- no more pieces than accepted transfers. That one knew no scale, let a piece lie in a vessel only, and had no rules of vessels.
 -- Assumes nothing.
-use Rattle.std.proofs.Common.{◌≡◌, refl, Bool, true, ◌&&◌, List, [], ◌∷◌, ℕ, ◌≤◌, ◌<◌, arith, eqb}
+use Rattle.std.proofs.Common.{◌≡◌, refl, Bool, true, ◌&&◌, List, [], ◌∷◌, ℕ, ◌≤◌, ◌<◌, arith, leb, eqb}
 use Rattle.std.proofs.lemmas.Bool.Decides.{nat_tests}
 use Rattle.table.specs.declared.Piece.{Piece}
 use Rattle.table.specs.Pieces.{held, All, done, also}
@@ -25,7 +25,7 @@ module _ (size last : ℕ) where
   former_bare small [] e = (refl, refl)
   former_bare small (p ∷ ps) e = grind (arith, nat_tests, former_bare small ps)
 
-pub bare_book : (h : Head) (t : List ℕ) → h.scale ≡ 0 → h.rules ≡ given_rules h.rule h.vessels → adds_up h t ≡ all_of (former_tests h t)
+pub bare_book : (h : Head) (t : List ℕ) → h.scale ≡ 0 → h.rules ≡ given_rules h.rule h.vessels → all_of (former_tests h t) ≡ (adds_up h t && leb h.pieces h.accepted)
 unfolding adds_up
 bare_book h t z unset = grind (arith, nat_tests, alike, given_fit h.rule h.vessels)
   where

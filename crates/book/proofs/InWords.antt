@@ -9,10 +9,11 @@ use Rattle.table.specs.declared.Piece.{Piece}
 use Rattle.table.specs.Pieces.{hand_to}
 use Rattle.table.specs.Table.{pieces_of, places_of, lay}
 use Rattle.table.proofs.Pieces.{all_map}
+use Rattle.taking.specs.Stirring.{stirred_rule}
 use Rattle.taking.specs.InTable.{Moved, in_table}
 use Rattle.taking.specs.Sweeping.{held_by, elsewhere}
 use Rattle.taking.proofs.InTable.{taken_in_table}
-use Rattle.taking.proofs.Sweeping.{sweeps}
+use Rattle.taking.proofs.Sweeping.{swept_whole}
 use Rattle.refusal.specs.Numbers.{◌if◌, first}
 use Rattle.book.specs.declared.Head.{Head}
 use Rattle.book.specs.declared.Transfer.{Transfer}
@@ -63,19 +64,19 @@ module _ (h : Head) (t : List ℕ) where
   abbrev InWords : Call → Motion → Type 0
   InWords c m = ((call_on h t c).table ≡ lay (moved m).pieces t) × ((call_on h t c).answer ≡ moved_answer (moved m))
 
-  pub in_words : (x : Transfer) → (call_on h t (post x)).number ≡ 0 → InWords (post x) (motion_of x)
+  pub in_words : (x : Transfer) → (call_on h t (post x)).number ≡ 0 → rule_at h.rules x.source ≢ stirred_rule → InWords (post x) (motion_of x)
   unfolding call_on takes
-  in_words x z =
+  in_words x z first =
       let e = sym (call_number h t (post x)) ∙ z in
       let apart = (post_fit x e).apart in
-      rw (e, taken_in_table _ (motion_of x).moves ps (λ q. apart (sym q))) (refl, refl)
+      rw (e, taken_in_table _ (motion_of x).moves ps first (λ q. apart (sym q))) (refl, refl)
 
-  pub lift_in_words : (x : Lift) → (call_on h t (lift x)).number ≡ 0 → InWords (lift x) (lift_motion the_scale x)
+  pub lift_in_words : (x : Lift) → (call_on h t (lift x)).number ≡ 0 → rule_at h.rules x.source ≢ stirred_rule → InWords (lift x) (lift_motion the_scale x)
   unfolding call_on takes
-  lift_in_words x z =
+  lift_in_words x z first =
       let e = sym (call_number h t (lift x)) ∙ z in
       let k = (accepted_book (lift x) e).vessels_fit in
-      rw (e, taken_in_table _ (lift_motion the_scale x).moves ps (λ q. omega (arith, (fit_lift x e).source_in))) (refl, refl)
+      rw (e, taken_in_table _ (lift_motion the_scale x).moves ps first (λ q. omega (arith, (fit_lift x e).source_in))) (refl, refl)
 
   pub tip_in_words : (y : Tip) → (call_on h t (tip y)).number ≡ 0
       → (call_on h t (tip y)).table ≡ lay (elsewhere the_scale ps ++ map (hand_to y.destination) (held_by the_scale ps)) t
@@ -83,7 +84,7 @@ module _ (h : Head) (t : List ℕ) where
   tip_in_words y z =
       let e = sym (call_number h t (tip y)) ∙ z in
       let weighty = all_map (λ p f. f.weighty) (accepted_book (tip y) e).sound in
-      rw (e, sweeps (tip_on the_scale (book_of h t) y).moves ps weighty refl) (simp append-nil)
+      rw (e, swept_whole (tip_on the_scale (book_of h t) y).moves ps weighty refl) (simp append-nil)
 
   -- "Each accepted report writes exactly the weights that document 01 names for it", and "numbers after these remain".
   pub report_in_words : (q : Report) (room : List ℕ) → (call_on h t (ask q room)).number ≡ 0
@@ -98,9 +99,9 @@ module _ (h : Head) (t : List ℕ) where
   pub report_refused : (q : Report) (room : List ℕ) → ((call_on h t (ask q room)).number ≡ 0 → ⊥) → (call_on h t (ask q room)).room ≡ room
   report_refused q room nz = rw (refused_on h t (ask q room) _ (sym (call_number h t (ask q room))) nz)
 
-  -- "The call checks 1, 4, 5, 2", and nothing else refuses it.
+  -- "The call checks 1, 4, 5, 2", where "2 now means above 4", and nothing else refuses it.
   pub set_checks : (s : Setting) → number_of h t (set_rule s)
-      ≡ first (1 if ltb (length t) 4 ∷ 4 if not (adds_up h t) ∷ 5 if leb h.vessels s.vessel ∷ 2 if ltb 3 s.rule ∷ [])
+      ≡ first (1 if ltb (length t) 4 ∷ 4 if not (adds_up h t) ∷ 5 if leb h.vessels s.vessel ∷ 2 if ltb 4 s.rule ∷ [])
   unfolding number_of book_checks setting_checks
   set_checks s = grind (arith, nat_tests)
 

@@ -24,7 +24,6 @@ pub record AddsUp (h : Head) (t : List ℕ) : Type 0 where
   pub some_vessel : 1 ≤ h.vessels
   pub vessels_fit : h.vessels ≤ most_vessels
   pub few : h.pieces ≤ places_of t
-  pub counted : h.pieces ≤ h.accepted
   pub rules_known : rules_fit h.vessels h.rules ≡ true
   pub sound : All (SoundPiece h.vessels h.last) (pieces_of h.pieces t)
   pub balances_are : h.balances ≡ balances_of h.vessels (pieces_of h.pieces t)

@@ -7,6 +7,7 @@ pub mod Sound
 pub mod Beside
 pub mod HeadLaws
 pub mod Memory
+pub mod Unstirred
 pub mod Known
 pub mod After
 pub mod Lists
@@ -17,10 +18,12 @@ pub mod Cases
 pub mod Marked
 pub mod Ages
 pub mod InWords
+pub mod Stirred
 pub mod SecondScale
 pub mod Succession
 pub mod Scale
 pub mod Load
 pub mod Mixed
+pub mod StirredCases
 pub mod Edges
 pub mod ReportLaws

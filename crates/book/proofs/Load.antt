@@ -32,7 +32,7 @@ use Rattle.book.specs.Reports.{rows, report_row, report_checks, onto}
 use Rattle.book.specs.Calls.{Call, post, lift, tip, set_rule, ask, meaning}
 use Rattle.book.specs.Memory.{Outcome, number_of, book_checks, call_on}
 use Rattle.book.specs.Lists.{calls_on, tips_in, tips}
-use Rattle.book.proofs.Sound.{takes_law}
+use Rattle.book.proofs.Sound.{takes_fair}
 use Rattle.book.proofs.Memory.{call_number, accepted_on, refused_memory, on_number, number_split, number_same, book_passed, back, in_step}
 use Rattle.book.proofs.Known.{adds_up_told, adds_sound, adds_on}
 use Rattle.book.proofs.InWords.{passed_own, accepted_book, post_fit, fit_lift, tip_in_words}
@@ -72,7 +72,7 @@ module _ (h : Head) (t : List ℕ) where
         accepted (post x) u e =
             let f = post_fit h t x e in
             let few = (accepted_book h t (post x) e).vessels_fit in
-            handed_others (motion_of x).moves _ _ (takes_law (book_of h t) (motion_of x)).fair the_scale
+            handed_others (motion_of x).moves _ _ (takes_fair (book_of h t) (motion_of x)) the_scale
             (λ s. omega (arith, f.source_in)) (λ s. omega (arith, f.destination_in))
         accepted (lift x) u e = absurd (loaded ((accepted_book h t (lift x) e).scale_is ∙ (fit_lift h t x e).bare))
         accepted (tip y) u e = absurd (omega arith)

@@ -18,10 +18,10 @@ use Rattle.book.specs.Memory.{number_of, book_checks, call_on}
 use Rattle.book.specs.Lists.{Entry, Journal, calls_on}
 use Rattle.book.proofs.Cases.{Case, called, seen, pieces}
 
-abbrev give : ℕ → ℕ → ℕ → ℕ → ℕ → Call
+abbrev pub give : ℕ → ℕ → ℕ → ℕ → ℕ → Call
 give s d t q age = post (transfer_of s d t q age)
 
-abbrev set_to : ℕ → ℕ → Call
+abbrev pub set_to : ℕ → ℕ → Call
 set_to v rule = set_rule (setting_of v rule)
 
 -- four lots of vessel 0, received in this order: born in minutes 5, 2, 8 and 6
@@ -51,7 +51,7 @@ weighed =
     lots ++ (set_to 0 3 ∷ lift (lift_of 0 11 4 0) ∷ set_to 0 2 ∷ set_to 1 1 ∷ set_to 3 1 ∷ tip (tip_of 1 12) ∷ give 0 1 12 2 0 ∷ give 1 2 12 3 0 ∷ [])
 
 abbrev refused : List Call
-refused = set_to 2 3 ∷ set_to 3 0 ∷ set_to 3 4 ∷ set_to 0 4 ∷ set_to 0 TOP ∷ give 1 0 5 3 0 ∷ set_to 1 2 ∷ set_to 64 0 ∷ []
+refused = set_to 2 3 ∷ set_to 3 0 ∷ set_to 3 5 ∷ set_to 0 5 ∷ set_to 0 TOP ∷ give 1 0 5 3 0 ∷ set_to 1 2 ∷ set_to 64 0 ∷ []
 
 -- a look at the number of every call, the book's rule and those of four vessels, one more than it has
 abbrev told : Journal → List ℕ

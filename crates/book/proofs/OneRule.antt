@@ -1,16 +1,19 @@
 -- A BOOK WHOSE RULES WERE NEVER SET IS THE FORMER BOOK. Where each vessel has the rule that opening gave it, a call gives and leaves what it did while a
 -- book had one rule (`as_before`); and so does every list of calls in which no rule is set: its numbers, its count of even transfers, the head and the
--- table are the same (`never_set`), on any head and any table.
--- The idea: what is picked differs only where the source is no vessel of the book, and there 5 comes first.
+-- table are the same (`never_set`), on any head with no more pieces than accepted transfers and any table. (With more, a book was off.)
+-- The idea: what is picked differs only where the source is no vessel of the book, and there 5 comes first; and the four first rules give at most one piece
+-- more for each transfer.
 -- Assumes nothing.
 use Rattle.std.proofs.Common.{◌≡◌, refl, sym, ap, ◌∙◌, Bool, true, false, cond, List, [], ◌∷◌, ℕ, zero, suc, ◌≤◌, ◌<◌, arith, T, ltb, length}
 use Rattle.std.proofs.lemmas.Bool.Decides.{nat_tests}
 use Rattle.table.specs.Table.{places_of}
+use Rattle.table.proofs.Table.{length_pieces}
+use Rattle.taking.proofs.Stirring.{taken_singly}
 use Rattle.refusal.specs.Numbers.{Check, ◌if◌, first, if_zero}
 use Rattle.refusal.proofs.Numbers.{named, first_append}
 use Rattle.book.specs.declared.Head.{Head}
 use Rattle.book.specs.declared.Motion.{Motion}
-use Rattle.book.specs.Head.{Book, most_vessels, the_scale, given_rules, adds_up, book_of, open_checks, opens, opening}
+use Rattle.book.specs.Head.{Book, the_scale, given_rules, adds_up, book_of, open_checks, opens, opening}
 use Rattle.book.specs.Motion.{of_book, takes, pieces_after}
 use Rattle.book.specs.Transfer.{transfer_checks, motion_of}
 use Rattle.book.specs.Scale.{lift_checks, lift_motion}
@@ -18,12 +21,14 @@ use Rattle.book.specs.Calls.{Call, post, lift, tip, set_rule, ask, taking, meani
 use Rattle.book.specs.Memory.{outcome, book_checks, number_of, call_on}
 use Rattle.book.specs.Lists.{noted, calls_on, sets_rule, without_settings}
 use Rattle.book.specs.OneRule.{former_takes, former_pieces, former_taking, one_rule, one_rule_checks, one_rule_number, one_rule_on, one_rule_calls}
-use Rattle.book.proofs.RuleLaws.{given_fit, given_at}
+use Rattle.book.proofs.RuleLaws.{given_fit, given_at, given_unstirred}
 use Rattle.book.proofs.Checks.{fit, lift_fit}
-use Rattle.book.proofs.Memory.{number_split, passed_book, book_passed, on_number, rule_kept, rules_kept}
-use Rattle.book.proofs.Known.{adds_up_told}
+use Rattle.book.proofs.Memory.{number_split, number_same, passed_book, book_passed, on_number, rule_kept, rules_kept}
+use Rattle.book.proofs.Sound.{number, keeps, count_kept}
+use Rattle.book.proofs.Known.{AddsUp, adds_up_told, adds_sound, adds_on}
+use Rattle.book.proofs.Unstirred.{asks_none}
 
-module _ (h : Head) (t : List ℕ) (unset : h.rules ≡ given_rules h.rule h.vessels) where
+module _ (h : Head) (t : List ℕ) (unset : h.rules ≡ given_rules h.rule h.vessels) (counted : h.pieces ≤ h.accepted) where
   abbrev b : Book
   b = book_of h t
 
@@ -31,82 +36,99 @@ module _ (h : Head) (t : List ℕ) (unset : h.rules ≡ given_rules h.rule h.ves
   unfolding book_checks adds_up one_rule_checks
   same_book = grind (arith, nat_tests, given_fit h.rule h.vessels)
 
-  same_taken : (m : Motion) → h.vessels ≤ most_vessels → m.moves.source < h.vessels → takes b m ≡ former_takes b m.moves
+  same_taken : (m : Motion) → AddsUp h t → m.moves.source < h.vessels → takes b m ≡ former_takes b m.moves
   unfolding takes
-  same_taken m few inside = rw (unset, given_at h.rule h.vessels m.moves.source few inside) refl
+  same_taken m a inside =
+      rw (unset, given_at h.rule h.vessels m.moves.source a.vessels_fit inside) (taken_singly h.rule m.moves b.pieces (λ e. omega (arith, a.rule_known)))
 
   pub former_split : (c : Call) → one_rule_number h t c ≡ if_zero (first (one_rule_checks h t)) (first ((one_rule c).checks (places_of t) b)) (first (one_rule_checks h t))
   unfolding one_rule_number one_rule_checks
   former_split c = first_append (one_rule_checks h t) ((one_rule c).checks (places_of t) b) tt
 
   -- A call is as before if, on a book that adds up, its own checks are, and what it leaves where none applies.
-  module _ (c : Call) (same_checks : h.vessels ≤ most_vessels → first ((meaning c).checks (places_of t) b) ≡ first ((one_rule c).checks (places_of t) b))
+  module _ (c : Call) (same_checks : AddsUp h t → first ((meaning c).checks (places_of t) b) ≡ first ((one_rule c).checks (places_of t) b))
       (same_lent : (meaning c).lent ≡ (one_rule c).lent)
-      (same_left : h.vessels ≤ most_vessels → first ((meaning c).checks (places_of t) b) ≡ 0 → outcome h t (meaning c) 0 ≡ outcome h t (one_rule c) 0) where
-    few : first (book_checks h t) ≡ 0 → h.vessels ≤ most_vessels
-    few e = (adds_up_told h t (book_passed h t e).1).vessels_fit
+      (same_left : AddsUp h t → first ((meaning c).checks (places_of t) b) ≡ 0 → outcome h t (meaning c) 0 ≡ outcome h t (one_rule c) 0) where
+    sums : first (book_checks h t) ≡ 0 → AddsUp h t
+    sums e = adds_up_told h t (book_passed h t e).1
 
     same_number : number_of h t c ≡ one_rule_number h t c
-    same_number = grind (arith, number_split h t c, former_split c, same_book, few, same_checks)
+    same_number = grind (arith, number_split h t c, former_split c, same_book, sums, same_checks)
 
     as_ever : call_on h t c ≡ one_rule_on h t c
     unfolding call_on one_rule_on
     as_ever = rw (← same_number) (go (number_of h t c) refl)
       where
         go : (n : ℕ) → number_of h t c ≡ n → outcome h t (meaning c) n ≡ outcome h t (one_rule c) n
-        go zero e = let p = passed_book h t c e in same_left (few p) (sym (on_number h t c _ refl p) ∙ e)
+        go zero e = let p = passed_book h t c e in same_left (sums p) (sym (on_number h t c _ refl p) ∙ e)
         go (suc n) e = rw same_lent refl
 
   -- what takes weight from a vessel
   module _ (c : Call) (checks : Book → List Check) (m : Motion) (now : meaning c ≡ taking checks m) (was : one_rule c ≡ former_taking checks m)
       (ok : T (named (checks b))) (inside : first (checks b) ≡ 0 → m.moves.source < h.vessels) where
-    same_own : h.vessels ≤ most_vessels → first ((taking checks m).checks (places_of t) b) ≡ first ((former_taking checks m).checks (places_of t) b)
-    same_own few =
+    same_own : AddsUp h t → first ((taking checks m).checks (places_of t) b) ≡ first ((former_taking checks m).checks (places_of t) b)
+    same_own a =
         let one = first_append (checks b) (11 if ltb (places_of t) (length (pieces_after b m)) ∷ []) ok in
         let other = first_append (checks b) (11 if ltb (places_of t) (length (former_pieces b m.moves)) ∷ []) ok in
-        let same = λ (e : first (checks b) ≡ 0). same_taken m few (inside e) in
+        let same = λ (e : first (checks b) ≡ 0). same_taken m a (inside e) in
         grind (arith, one, other, same)
 
-    same_left : h.vessels ≤ most_vessels → first ((taking checks m).checks (places_of t) b) ≡ 0 → outcome h t (taking checks m) 0 ≡ outcome h t (former_taking checks m) 0
-    same_left few e =
+    same_left : AddsUp h t → first ((taking checks m).checks (places_of t) b) ≡ 0 → outcome h t (taking checks m) 0 ≡ outcome h t (former_taking checks m) 0
+    same_left a e =
         let one = first_append (checks b) (11 if ltb (places_of t) (length (pieces_after b m)) ∷ []) ok in
         let z : first (checks b) ≡ 0 = grind (arith, one) in
-        rw (same_taken m few (inside z)) refl
+        rw (same_taken m a (inside z)) refl
 
     taking_as_before : call_on h t c ≡ one_rule_on h t c
-    taking_as_before = as_ever c (λ few. rw (now, was) (same_own few)) (rw (now, was) refl) (λ few e. rw (now, was) (same_left few (rw now at e)))
+    taking_as_before = as_ever c (λ a. rw (now, was) (same_own a)) (rw (now, was) refl) (λ a e. rw (now, was) (same_left a (rw now at e)))
 
   pub as_before : (c : Call) → sets_rule c ≡ false → call_on h t c ≡ one_rule_on h t c
   unfolding transfer_checks lift_checks
   as_before (post x) u = taking_as_before (post x) (λ b. transfer_checks (of_book b) x) (motion_of x) refl refl tt (λ e. (fit (of_book b) x e).source_in)
   as_before (lift x) u = taking_as_before (lift x) (λ b. lift_checks the_scale (of_book b) x) (lift_motion the_scale x) refl refl tt (λ e. (lift_fit the_scale (of_book b) x e).source_in)
-  as_before (tip y) u = as_ever (tip y) (λ few. refl) refl (λ few e. refl)
+  as_before (tip y) u = as_ever (tip y) (λ a. refl) refl (λ a e. refl)
   as_before (set_rule s) u = cc
-  as_before (ask q room) u = as_ever (ask q room) (λ few. refl) refl (λ few e. refl)
+  as_before (ask q room) u = as_ever (ask q room) (λ a. refl) refl (λ a e. refl)
 
   -- and it leaves the rules as they were given
   pub still_unset : (c : Call) → sets_rule c ≡ false → let z = (call_on h t c).head in z.rules ≡ given_rules z.rule z.vessels
   still_unset c u = rw (rules_kept h t c u, (rule_kept h t c).0, (rule_kept h t c).1) unset
 
+  -- and no more pieces than accepted transfers
+  pub still_counted : (c : Call) → let z = (call_on h t c).head in z.pieces ≤ z.accepted
+  unfolding call_on
+  still_counted c = go (number_of h t c) refl
+    where
+      go : (n : ℕ) → number_of h t c ≡ n → let z = (outcome h t (meaning c) n).head in z.pieces ≤ z.accepted
+      go (suc n) e = counted
+      go zero e =
+          let a = adds_up_told h t (book_passed h t (passed_book h t c e)).1 in
+          let known = number_same (places_of t) h t b (adds_on h t a) (adds_sound h t a) c in
+          let none = asks_none h.rules (rw unset (given_unstirred h.rule h.vessels a.rule_known a.vessels_fit)) c in
+          let z : number (places_of t) b c ≡ 0 = sym known ∙ e in
+          omega (arith, counted, length_pieces h.pieces t, count_kept (places_of t) b c z none, (keeps (places_of t) b c (adds_sound h t a) z).tally)
+
 abbrev AsBefore : List Call → Type 0
-AsBefore cs = (h : Head) (t : List ℕ) → h.rules ≡ given_rules h.rule h.vessels → calls_on h t cs ≡ one_rule_calls h t cs
+AsBefore cs = (h : Head) (t : List ℕ) → h.rules ≡ given_rules h.rule h.vessels → h.pieces ≤ h.accepted → calls_on h t cs ≡ one_rule_calls h t cs
 
 -- THE THEOREM: for every list of calls, any settings left out.
 pub never_set : (cs : List Call) → AsBefore (without_settings cs)
 unfolding calls_on one_rule_calls
-never_set [] h t unset = refl
-never_set (c ∷ cs) h t unset = go (sets_rule c) refl (never_set cs)
+never_set [] h t unset counted = refl
+never_set (c ∷ cs) h t unset counted = go (sets_rule c) refl (never_set cs)
   where
     go : (s : Bool) → sets_rule c ≡ s → AsBefore (without_settings cs)
         → calls_on h t (cond s (without_settings cs) (c ∷ without_settings cs)) ≡ one_rule_calls h t (cond s (without_settings cs) (c ∷ without_settings cs))
-    go true e rest = rest h t unset
-    go false e rest = rw (← (as_before h t unset c e)) (ap (noted c (call_on h t c)) (rest (call_on h t c).head (call_on h t c).table (still_unset h t unset c e)))
+    go true e rest = rest h t unset counted
+    go false e rest =
+        let o = call_on h t c in
+        rw (← (as_before h t unset counted c e)) (ap (noted c o) (rest o.head o.table (still_unset h t unset counted c e) (still_counted h t unset counted c)))
 
 -- so from any opening on
-pub opened_unset : (rule size : ℕ) → let h = (opening rule size).head in h.rules ≡ given_rules h.rule h.vessels
+pub opened_unset : (rule size : ℕ) → let h = (opening rule size).head in (h.rules ≡ given_rules h.rule h.vessels) × (h.pieces ≤ h.accepted)
 unfolding opening
 opened_unset rule size = go (first (open_checks rule size))
   where
-    go : (n : ℕ) → let h = (opens rule size n).head in h.rules ≡ given_rules h.rule h.vessels
-    go zero = refl
-    go (suc n) = refl
+    go : (n : ℕ) → let h = (opens rule size n).head in (h.rules ≡ given_rules h.rule h.vessels) × (h.pieces ≤ h.accepted)
+    go zero = (refl, omega arith)
+    go (suc n) = (refl, omega arith)

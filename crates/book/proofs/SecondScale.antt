@@ -14,7 +14,7 @@ use Rattle.table.proofs.Pieces.{all_map}
 use Rattle.table.proofs.Table.{length_flat, quad_is}
 use Rattle.taking.specs.Taking.{taken, handed}
 use Rattle.taking.proofs.Handed.{handed_all}
-use Rattle.taking.proofs.Sweeping.{none_held, sweeps, passed_on}
+use Rattle.taking.proofs.Sweeping.{none_held, swept_whole, passed_on}
 use Rattle.refusal.specs.Numbers.{TOP, ◌if◌, first}
 use Rattle.book.specs.declared.Transfer.{Transfer}
 use Rattle.book.specs.Head.{Book, as_they_lie, rule_at}
@@ -24,7 +24,7 @@ use Rattle.book.specs.Scale.{lift_part, tip_part, lift_checks, tip_checks, lift_
 use Rattle.book.specs.Calls.{post, lifting, tipping, tip_on, Meaning, meaning}
 use Rattle.book.proofs.RuleLaws.{rule_beyond}
 use Rattle.book.proofs.Checks.{fit, LiftFit, lift_fit}
-use Rattle.book.proofs.Sound.{own, SoundBook, takes_law, after_length, held_after, tip_length, accepted_own}
+use Rattle.book.proofs.Sound.{own, SoundBook, takes_fair, after_length, held_after, tip_length, accepted_own}
 
 -- pieces laid on a table where as many lay
 lay_again : (ps qs : List Piece) (t : List ℕ) → length qs ≡ length ps → lay qs (lay ps t) ≡ lay qs t
@@ -98,10 +98,10 @@ module _ (scale places : ℕ) (b : Book) (x : Transfer) where
       same_pieces =
           let lift = lift_motion scale (lift_part x) in
           let tip = tip_on scale lifted (tip_part x) in
-          let fair = (takes_law b lift).fair in
+          let fair = takes_fair b lift in
           let still = handed_all lift.moves b.pieces _ fair (λ p. 1 ≤ p.weight) (λ p. 1 ≤ p.weight) (λ p w u q. u) (λ p q. q) (λ p e q. q) (λ u. u) weighty in
           let rest = (fair.keeps (λ p. p.holder ≢ scale) (λ p w u q. q) (none_held scale b.pieces weighty bare)).0 in
-          ap (λ (rule : ℕ). handed tip.moves (taken rule tip.moves lifted.pieces)) ruleless ∙ ap (handed tip.moves) (sweeps tip.moves lifted.pieces still refl) ∙ passed_on lift.moves tip.moves (motion_of x).moves (takes b lift) rest refl refl refl refl
+          ap (λ (rule : ℕ). handed tip.moves (taken rule tip.moves lifted.pieces)) ruleless ∙ ap (handed tip.moves) (swept_whole tip.moves lifted.pieces still refl) ∙ passed_on lift.moves tip.moves (motion_of x).moves (takes b lift) rest refl refl refl refl
 
       next_is : down.next lifted ≡ whole.next b
       next_is = λ i. record { rule = b.rule; vessels = b.vessels; last = x.minute; accepted = add-zero (b.accepted + 1) i; rules = b.rules; pieces = same_pieces i }

@@ -1,14 +1,18 @@
 -- What keeps a book sound. A sound book is one that adds up; an accepted call leaves a sound book, the pieces after it lie in the table
--- that it leaves, and the count of pieces and of accepted transfers goes on as document 01 says. What a motion of pieces leaves is shown once,
--- for transfer, lift and tip, over whatever rule their source has; each kind of call has one clause of `keeps`.
+-- that it leaves, and the count of accepted transfers goes on as document 01 says. What a motion of pieces leaves is shown once,
+-- for transfer, lift and tip, over whatever rule their source has; each kind of call has one clause of `keeps`. The count of pieces goes on as document 01
+-- says where the pick is by one of the four first rules, which give at most one piece more (`count_kept`).
 -- Assumes nothing.
-use Rattle.std.proofs.Common.{◌≡◌, refl, sym, ◌↔◌, true, List, [], ◌∷◌, ◌++◌, ℕ, suc, ◌+◌, ◌-◌, ◌*◌, ◌≤◌, ◌<◌, min, arith, T, ltb, eqb, length, drop, length-append, length-drop}
+use Rattle.std.proofs.Common.{◌≡◌, refl, sym, ◌↔◌, ◌≢◌, true, false, List, [], ◌∷◌, ◌++◌, ℕ, suc, ◌+◌, ◌-◌, ◌*◌, ◌≤◌, ◌<◌, min, arith, T, ltb, eqb, length, drop, length-append, length-drop}
 use Rattle.std.proofs.lemmas.Bool.Decides.{nat_tests}
+use borrow.Author.Tests.{eqb-false}
 use Rattle.table.specs.declared.Piece.{Piece}
 use Rattle.table.specs.Pieces.{only, held, All}
 use Rattle.table.specs.Table.{flat, lay, places_of}
 use Rattle.table.proofs.Table.{length_flat, quad_is, places_fit}
-use Rattle.taking.proofs.Taking.{Law, taken_law}
+use Rattle.taking.specs.Stirring.{stirred_rule}
+use Rattle.taking.proofs.Taking.{Fair, singly_law}
+use Rattle.taking.proofs.Stirring.{taken_fair, taken_singly, none_split}
 use Rattle.taking.proofs.Handed.{handed_length, handed_held, handed_all}
 use Rattle.refusal.specs.Numbers.{TOP, Check, ◌if◌, or_else, first, if_zero}
 use Rattle.refusal.proofs.Numbers.{named, first_append}
@@ -17,11 +21,12 @@ use Rattle.book.specs.declared.Lift.{Lift}
 use Rattle.book.specs.declared.Tip.{Tip}
 use Rattle.book.specs.declared.Setting.{Setting}
 use Rattle.book.specs.declared.Motion.{Motion}
-use Rattle.book.specs.Head.{Book, the_scale, last_rule, most_vessels, is_holder, rules_fit}
+use Rattle.book.specs.Head.{Book, the_scale, last_rule, most_vessels, is_holder, rule_at, rules_fit}
 use Rattle.book.specs.Motion.{of_book, takes, pieces_after, book_after}
 use Rattle.book.specs.Transfer.{transfer_checks, motion_of}
 use Rattle.book.specs.Scale.{lift_checks, tip_checks, lift_motion}
 use Rattle.book.specs.Calls.{Call, post, lift, tip, set_rule, ask, answer_of, even_of, tip_on, Meaning, taking, meaning}
+use Rattle.book.specs.Lists.{asks_stirred}
 use Rattle.book.proofs.RuleLaws.{set_fit}
 use Rattle.book.proofs.Checks.{fit, lift_fit, tip_fit, SettingFit, setting_fit}
 
@@ -44,7 +49,6 @@ pub record SoundBook (places : ℕ) (b : Book) : Type 0 where
   pub some_vessel : 1 ≤ b.vessels
   pub vessels_fit : b.vessels ≤ most_vessels
   pub fits : length b.pieces ≤ places
-  pub counted : length b.pieces ≤ b.accepted
   pub rules_known : rules_fit b.vessels b.rules ≡ true
   pub sound : All (SoundPiece b.vessels b.last) b.pieces
 
@@ -64,7 +68,6 @@ pub record Keeps (places : ℕ) (b : Book) (x : Meaning) : Type 0 where
   pub sound : SoundBook places (x.next b)
   pub lies : (t : List ℕ) → Lies places b.pieces t → Lies places (x.next b).pieces (x.table b t)
   pub long : (t : List ℕ) → Lies places b.pieces t → length (x.table b t) ≡ length t
-  pub count : length (x.next b).pieces + x.even b ≡ length b.pieces + x.counts
   pub tally : (x.next b).accepted ≡ x.counts + b.accepted
 
 -- pieces laid on a table that has places for them
@@ -78,28 +81,35 @@ module _ (places : ℕ) (ps qs : List Piece) (t : List ℕ) (h : length qs ≤ p
 
 -- What a motion takes from a book, whatever the rule of its source.
 module _ (b : Book) (m : Motion) where
-  pub takes_law : Law m.moves.source m.moves.weight b.pieces (takes b m)
+  pub takes_fair : Fair m.moves.source m.moves.weight b.pieces (takes b m)
   unfolding takes
-  takes_law = taken_law _ m.moves b.pieces
+  takes_fair = taken_fair _ m.moves b.pieces
 
   pub after_length : length (pieces_after b m) ≡ length b.pieces + ((takes b m).split + min 1 (takes b m).born)
-  after_length = handed_length m.moves b.pieces _ takes_law.fair
-
-  pub after_count : length (pieces_after b m) + even_of (answer_of (takes b m)) ≡ suc (length b.pieces)
-  after_count = grind (arith, after_length, takes_law.one_more)
+  after_length = handed_length m.moves b.pieces _ takes_fair
 
   -- K8; and what a tip takes
   pub all_taken : m.moves.weight ≡ held m.moves.source b.pieces → (takes b m).split + (takes b m).born ≡ 0
-  all_taken e = omega (arith, takes_law.fair.born_is, takes_law.left_over)
+  unfolding takes
+  all_taken e = omega (arith, takes_fair.born_is, none_split (rule_at b.rules m.moves.source) m.moves b.pieces)
 
-  -- row 11 of the table in its own words
-  pub table_full : (places : ℕ) → length b.pieces ≤ places
-      → (places < length (pieces_after b m)) ↔ ((1 ≤ (takes b m).split + (takes b m).born) × (length b.pieces ≡ places))
-  table_full places h = grind (arith, after_length, takes_law.one_more)
+  -- Picked by one of the four first rules.
+  module _ (first : rule_at b.rules m.moves.source ≢ stirred_rule) where
+    one_more : (takes b m).split + min 1 (takes b m).born ≤ 1
+    unfolding takes
+    one_more = rw (taken_singly _ m.moves b.pieces first) (singly_law _ m.moves b.pieces).one_more
+
+    pub after_count : length (pieces_after b m) + even_of (answer_of (takes b m)) ≡ suc (length b.pieces)
+    after_count = grind (arith, after_length, one_more)
+
+    -- row 11 of the table in its own words
+    pub table_full : (places : ℕ) → length b.pieces ≤ places
+        → (places < length (pieces_after b m)) ↔ ((1 ≤ (takes b m).split + (takes b m).born) × (length b.pieces ≡ places))
+    table_full places h = grind (arith, after_length, one_more)
 
   pub held_after : (v : ℕ) → held v (pieces_after b m)
       ≡ (held v b.pieces - only (eqb m.moves.source v) (m.moves.weight - (m.moves.weight - held m.moves.source b.pieces))) + only (eqb m.moves.destination v) m.moves.weight
-  held_after = handed_held m.moves b.pieces _ takes_law.fair
+  held_after = handed_held m.moves b.pieces _ takes_fair
 
   -- What a motion asks of a book, so that it leaves a sound one.
   pub record Sane : Type 0 where
@@ -107,12 +117,11 @@ module _ (b : Book) (m : Motion) where
     pub origin_in : 1 ≤ (takes b m).born → m.moves.source < b.vessels
     pub forward : b.last ≤ m.minute
     pub past : m.moves.birth ≤ m.minute
-    pub few : (takes b m).split + min 1 (takes b m).born ≤ m.counts
 
   module _ (f : Sane) where
     pub pieces_sound : All (SoundPiece b.vessels b.last) b.pieces → All (SoundPiece b.vessels m.minute) (pieces_after b m)
     pieces_sound s =
-        handed_all m.moves b.pieces _ takes_law.fair (SoundPiece b.vessels b.last) (SoundPiece b.vessels m.minute)
+        handed_all m.moves b.pieces _ takes_fair (SoundPiece b.vessels b.last) (SoundPiece b.vessels m.minute)
         (λ p w u q. grind arith) (λ p q. grind arith) (λ p u q. grind arith) (λ u. grind (arith, f.origin_in u)) s
 
     pub motion_sound : (places : ℕ) → SoundBook places b → length (pieces_after b m) ≤ places → SoundBook places (book_after b m)
@@ -152,10 +161,10 @@ tip_length scale b y = omega (arith, after_length b (tip_on scale b y), tip_whol
 -- each call's own checks let a motion through that is sane
 module _ (b : Book) where
   pub post_sane : (x : Transfer) → first (transfer_checks (of_book b) x) ≡ 0 → Sane b (motion_of x)
-  post_sane x e = grind (arith, nat_tests, fit (of_book b) x, (takes_law b (motion_of x)).one_more)
+  post_sane x e = grind (arith, nat_tests, fit (of_book b) x)
 
   pub lift_sane : (x : Lift) → first (lift_checks the_scale (of_book b) x) ≡ 0 → Sane b (lift_motion the_scale x)
-  lift_sane x e = grind (arith, nat_tests, lift_fit the_scale (of_book b) x, (takes_law b (lift_motion the_scale x)).one_more)
+  lift_sane x e = grind (arith, nat_tests, lift_fit the_scale (of_book b) x)
 
   pub tip_sane : (y : Tip) → first (tip_checks the_scale (of_book b) y) ≡ 0 → Sane b (tip_on the_scale b y)
   tip_sane y e = grind (arith, nat_tests, tip_fit the_scale (of_book b) y, tip_whole the_scale b y)
@@ -186,19 +195,17 @@ taking_keeps places b checks m f one o h = record {
   sound = motion_sound b m f places o h;
   lies = λ t l. laid places b.pieces _ t h l;
   long = λ t l. laid_long places b.pieces _ t h l;
-  count = omega (arith, after_count b m);
   tally = omega arith;
 }
 
 pub keeps : (places : ℕ) (b : Book) (c : Call) → SoundBook places b → number places b c ≡ 0 → Keeps places b (meaning c)
-keeps places b (ask q room) o e = record { sound = o; lies = λ t l. l; long = λ t l. refl; count = omega arith; tally = omega arith }
+keeps places b (ask q room) o e = record { sound = o; lies = λ t l. l; long = λ t l. refl; tally = omega arith }
 keeps places b (set_rule s) o e =
     let f = set_number places b s e in
     record {
       sound = grind (arith, set_fit b.vessels s.vessel s.rule b.rules f.vessel_in f.rule_known o.rules_known);
       lies = λ t l. l;
       long = λ t l. refl;
-      count = omega arith;
       tally = omega arith;
     }
 keeps places b (post x) o e = let a = post_number places b x e in taking_keeps places b _ (motion_of x) (post_sane b x a.0) refl o a.1
@@ -210,6 +217,14 @@ keeps places b (tip y) o e =
       sound = motion_sound b (tip_on the_scale b y) (tip_sane b y (tip_number places b y e)) places o h;
       lies = λ t l. laid places b.pieces _ t h l;
       long = λ t l. laid_long places b.pieces _ t h l;
-      count = omega arith;
       tally = omega arith;
     }
+
+-- The count of pieces goes on as that of transfers does, but for the even ones, where the pick is by one of the four first rules.
+pub count_kept : (places : ℕ) (b : Book) (c : Call) → number places b c ≡ 0 → asks_stirred b.rules c ≡ false
+    → length ((meaning c).next b).pieces + (meaning c).even b ≡ length b.pieces + (meaning c).counts
+count_kept places b (ask q room) e u = omega arith
+count_kept places b (set_rule s) e u = omega arith
+count_kept places b (post x) e u = omega (arith, after_count b (motion_of x) (eqb-false _ _ u))
+count_kept places b (lift x) e u = omega (arith, after_count b (lift_motion the_scale x) (eqb-false _ _ u))
+count_kept places b (tip y) e u = omega (arith, tip_length the_scale b y)

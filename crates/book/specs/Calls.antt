@@ -3,7 +3,7 @@
 use Rattle.std.specs.Prelude.{List, [], ◌∷◌, ◌++◌, ℕ, ◌+◌, ltb, length}
 use Rattle.table.specs.Pieces.{held}
 use Rattle.table.specs.Table.{lay}
-use Rattle.taking.specs.Taking.{Taken}
+use Rattle.taking.specs.Taken.{Taken}
 use Rattle.refusal.specs.Numbers.{Check, ◌if◌, if_zero}
 use Rattle.book.specs.declared.Transfer.{Transfer}
 use Rattle.book.specs.declared.Lift.{Lift}
@@ -26,7 +26,7 @@ pub data Call : Type 0 where
   set_rule : Setting → Call
   ask : Report → List ℕ → Call
 
--- "The answer carries the number of pieces moved whole, whether one was split, and the weight born."
+-- "The answer carries the number of pieces moved whole, whether one was split, and the weight born"; that mark is now "a count of splits".
 pub record Answer : Type 0 where
   pub whole : ℕ
   pub split : ℕ

@@ -11,13 +11,13 @@ use Rattle.taking.specs.declared.Move.{Move}
 use Rattle.refusal.specs.Numbers.{TOP, Check, ◌if◌, first}
 use Rattle.book.specs.declared.Head.{Head}
 use Rattle.book.specs.declared.Transfer.{Transfer}
-use Rattle.book.specs.Head.{book_of, count_tests, balances_of, all_of, lot_tests, every, same}
+use Rattle.book.specs.Head.{book_of, balances_of, all_of, lot_tests, every, same}
 use Rattle.book.specs.Motion.{Standing, of_book}
 use Rattle.book.specs.Transfer.{transfer_of}
 use Rattle.book.specs.Calls.{Meaning}
 use Rattle.book.specs.Memory.{Outcome, outcome}
 use Rattle.book.specs.WeighBook.{WeighBook}
-use Rattle.book.specs.OneRule.{former_taking}
+use Rattle.book.specs.OneRule.{former_taking, former_count_tests}
 
 -- the transfer that has age 0
 abbrev pub unaged : ℕ → ℕ → ℕ → ℕ → Transfer
@@ -46,7 +46,7 @@ former_fits size last p = all_of (ltb p.holder size ∷ lot_tests size last p)
 
 abbrev pub former_tests : Head → List ℕ → List Bool
 former_tests h t =
-    count_tests h t
+    former_count_tests h t
     ++ (every (former_fits h.vessels h.last) (pieces_of h.pieces t) ∷ same h.balances (balances_of h.vessels (pieces_of h.pieces t)) ∷ [])
 
 abbrev pub former_book_checks : Head → List ℕ → List Check

@@ -7,11 +7,13 @@ use Rattle.std.specs.List.{list_all}
 use Rattle.table.specs.declared.Piece.{Piece}
 use Rattle.table.specs.Pieces.{held}
 use Rattle.table.specs.Table.{pieces_of, places_of}
+use Rattle.taking.specs.Selection.{as_received}
+use Rattle.taking.specs.Stirring.{stirred_rule}
 use Rattle.refusal.specs.Numbers.{TOP, Check, ◌if◌, first}
 use Rattle.book.specs.declared.Head.{Head}
 use Rattle.book.specs.declared.Reply.{Reply}
 
--- "rule is 0 to 3; V is 1 to 64"
+-- "rule is 0 to 3; V is 1 to 64". Rule 4 is a vessel's alone: "opening and sheets stop at 3".
 abbrev pub last_rule : ℕ
 last_rule = 3
 
@@ -36,7 +38,7 @@ holdings h = h.balances ++ (h.scale ∷ [])
 
 -- The pieces on the scale "leave it in the order they lie in the table": rule 0 picks them.
 abbrev pub as_they_lie : ℕ
-as_they_lie = 0
+as_they_lie = as_received
 
 -- The rule by which the pieces of a holder are picked: each vessel has its own, and the scale has none.
 abbrev pub rule_at : List ℕ → ℕ → ℕ
@@ -150,9 +152,9 @@ same (x ∷ xs) (y ∷ ys) = eqb x y && same xs ys
 unfoldable pub all_zero : List ℕ → Bool
 all_zero xs = list_all (λ x. eqb x 0) xs
 
--- "each of these rules below V is known and those from V on are 0"
+-- "each of these rules below V is known and those from V on are 0"; "rule 4 can be set for a vessel"
 abbrev pub known_rule : ℕ → Bool
-known_rule rule = leb rule last_rule
+known_rule rule = leb rule stirred_rule
 
 unfoldable pub rules_fit : ℕ → List ℕ → Bool
 rules_fit size rules = list_all known_rule (take size rules) && all_zero (drop size rules)
@@ -161,9 +163,10 @@ rules_fit size rules = list_all known_rule (take size rules) && all_zero (drop s
 abbrev pub balanced : Head → List Piece → List Bool
 balanced h ps = every (fits h.vessels h.last) ps ∷ same h.balances (balances_of h.vessels ps) ∷ eqb h.scale (held the_scale ps) ∷ []
 
--- "A book adds up if: rule is 0 to 3; V is 1 to 64; pieces ≤ places; pieces ≤ accepted; .."
+-- "A book adds up if: rule is 0 to 3; V is 1 to 64; pieces ≤ places; .." That pieces ≤ accepted is asked no more: it "may now have more pieces than
+-- accepted transfers".
 abbrev pub count_tests : Head → List ℕ → List Bool
-count_tests h t = leb h.rule last_rule ∷ leb 1 h.vessels ∷ leb h.vessels most_vessels ∷ leb h.pieces (places_of t) ∷ leb h.pieces h.accepted ∷ []
+count_tests h t = leb h.rule last_rule ∷ leb 1 h.vessels ∷ leb h.vessels most_vessels ∷ leb h.pieces (places_of t) ∷ []
 
 abbrev pub book_tests : Head → List ℕ → List Bool
 book_tests h t = count_tests h t ++ (rules_fit h.vessels h.rules ∷ balanced h (pieces_of h.pieces t))

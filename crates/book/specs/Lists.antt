@@ -1,11 +1,13 @@
 -- Lists of calls, and demand 3: "Each call gets the head that the last one returned and the table as that one left it."
 -- Definitions only. Assumes nothing.
-use Rattle.std.specs.Prelude.{◌≡◌, Bool, true, false, cond, List, [], ◌∷◌, ℕ, ◌+◌, ◌≤◌, length}
+use Rattle.std.specs.Prelude.{◌≡◌, Bool, true, false, not, ◌&&◌, ◌||◌, cond, List, [], ◌∷◌, ℕ, ◌+◌, ◌≤◌, eqb, length}
+use Rattle.std.specs.List.{list_all}
 use Rattle.table.specs.Pieces.{sum, born_at, held}
 use Rattle.table.specs.Table.{places_of}
+use Rattle.taking.specs.Stirring.{stirred_rule}
 use Rattle.refusal.specs.Numbers.{if_zero}
 use Rattle.book.specs.declared.Head.{Head}
-use Rattle.book.specs.Head.{Book, book_of, adds_up, opened}
+use Rattle.book.specs.Head.{Book, rule_at, book_of, adds_up, opening, opened}
 use Rattle.book.specs.Calls.{Call, post, lift, tip, set_rule, ask, meaning}
 use Rattle.book.specs.Memory.{Outcome, call_on}
 use Rattle.book.specs.WeighBook.{blank, feed, listed, forecast}
@@ -76,6 +78,33 @@ abbrev pub without_settings : List Call → List Call
 without_settings [] = []
 without_settings (c ∷ cs) = cond (sets_rule c) (without_settings cs) (c ∷ without_settings cs)
 
+-- "Lists that never use rule 4": no pick is made under it. Whether a call asks for one, where the vessels have these rules; whether its number says that it
+-- made a pick, past all its checks but 11; and whether any call of a list makes one under rule 4.
+abbrev pub asks_stirred : List ℕ → Call → Bool
+asks_stirred rules (post x) = eqb (rule_at rules x.source) stirred_rule
+asks_stirred rules (lift x) = eqb (rule_at rules x.source) stirred_rule
+asks_stirred rules (tip y) = false
+asks_stirred rules (set_rule s) = false
+asks_stirred rules (ask q room) = false
+
+abbrev pub picked : ℕ → Bool
+picked number = eqb number 0 || eqb number 11
+
+unfoldable pub stirs : Head → List ℕ → List Call → Bool
+stirs h t [] = false
+stirs h t (c ∷ cs) = let o = call_on h t c in asks_stirred h.rules c && picked o.number || stirs o.head o.table cs
+
+-- A list in which no accepted call sets rule 4 is one of these (`first_rules`, proofs/Unstirred.antt). Whether a call sets it, and that none of these does:
+abbrev pub sets_stirred : Call → Bool
+sets_stirred (post x) = false
+sets_stirred (lift x) = false
+sets_stirred (tip y) = false
+sets_stirred (set_rule s) = eqb s.rule stirred_rule
+sets_stirred (ask q room) = false
+
+abbrev pub sets_none : List Call → Bool
+sets_none cs = list_all (λ c. not (sets_stirred c)) cs
+
 -- Demand 3, of the journal r of the calls cs on the head of an opening with this rule and this many vessels, and on the table t.
 pub record Demand3 (rule size : ℕ) (t : List ℕ) (cs : List Call) (r : Journal) : Type 0 where
   -- the pieces are those, in that order, of the accepted calls followed in turn from the empty book
@@ -84,12 +113,12 @@ pub record Demand3 (rule size : ℕ) (t : List ℕ) (cs : List Call) (r : Journa
   pub vessel_sums : (v : ℕ) → held v (book_of r.head r.table).pieces ≡ (feed (blank size) (answered r.log)).weight v
   -- for each origin and birth minute they sum to what the weigh book saw born
   pub birth_sums : (o m : ℕ) → sum (born_at o m) (book_of r.head r.table).pieces ≡ (feed (blank size) (answered r.log)).births o m
-  -- pieces + even transfers = accepted transfers, with lifts as transfers and no tip counted
-  pub even_count : r.head.pieces + evens r.log ≡ r.head.accepted
+  -- where rule 4 is never used, pieces + even transfers = accepted transfers, with lifts as transfers and no tip counted
+  pub even_count : stirs (opening rule size).head t cs ≡ false → r.head.pieces + evens r.log ≡ r.head.accepted
   -- the head's count is the number of transfers and lifts answered 0
   pub accepted_count : r.head.accepted ≡ transfers (answered r.log)
-  -- where no more transfers are listed, lifts and refused ones counted, than there are places, the weigh book alone gives the number of every
-  -- transfer and lift; and of every tip, if the table has at least 4 numbers
-  pub forecasts : transfers cs ≤ places_of t → (1 ≤ tips cs → 4 ≤ length t) → numbers r.log ≡ forecast (blank size) cs
+  -- where rule 4 is never used, and no more transfers are listed, lifts and refused ones counted, than there are places, the weigh book alone gives the
+  -- number of every transfer and lift; and of every tip, if the table has at least 4 numbers
+  pub forecasts : stirs (opening rule size).head t cs ≡ false → transfers cs ≤ places_of t → (1 ≤ tips cs → 4 ≤ length t) → numbers r.log ≡ forecast (blank size) cs
   -- the book adds up, so that number 4 never comes
   pub book_adds_up : adds_up r.head r.table ≡ true

@@ -3,7 +3,8 @@
 use Rattle.std.specs.Prelude.{List, ℕ, ◌+◌}
 use Rattle.table.specs.declared.Piece.{Piece}
 use Rattle.table.specs.Pieces.{held}
-use Rattle.taking.specs.Taking.{Taken, taken, handed}
+use Rattle.taking.specs.Taken.{Taken}
+use Rattle.taking.specs.Taking.{taken, handed}
 use Rattle.book.specs.declared.Head.{Head}
 use Rattle.book.specs.declared.Motion.{Motion}
 use Rattle.book.specs.Head.{Book, balance_at, rule_at}

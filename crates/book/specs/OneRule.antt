@@ -1,11 +1,13 @@
--- A book as it was while it had one rule: every pick from a vessel went by the rule of the book, and a book added up whatever the numbers are that are
--- its vessels' rules now. "A book whose rules were never set" is this one: `never_set` (proofs/OneRule.antt).
+-- A book as it was while it had one rule, one of the four first: every pick from a vessel went by the rule of the book, and a book added up only if it had
+-- no more pieces than accepted transfers, and whatever the numbers are that are its vessels' rules now. "A book whose rules were never set" is this one:
+-- `never_set` (proofs/OneRule.antt).
 -- Definitions only. Assumes nothing.
-use Rattle.std.specs.Prelude.{not, List, [], ◌∷◌, ◌++◌, ℕ, ◌+◌, ltb, length}
+use Rattle.std.specs.Prelude.{Bool, not, List, [], ◌∷◌, ◌++◌, ℕ, ◌+◌, leb, ltb, length}
 use Rattle.table.specs.declared.Piece.{Piece}
 use Rattle.table.specs.Table.{pieces_of, lay, places_of}
 use Rattle.taking.specs.declared.Move.{Move}
-use Rattle.taking.specs.Taking.{Taken, taken, handed}
+use Rattle.taking.specs.Taken.{Taken}
+use Rattle.taking.specs.Taking.{singly, handed}
 use Rattle.refusal.specs.Numbers.{Check, ◌if◌, first}
 use Rattle.book.specs.declared.Head.{Head}
 use Rattle.book.specs.declared.Motion.{Motion}
@@ -18,7 +20,7 @@ use Rattle.book.specs.Memory.{Outcome, outcome}
 use Rattle.book.specs.Lists.{Journal, noted}
 
 abbrev pub former_takes : Book → Move → Taken
-former_takes b x = taken b.rule x b.pieces
+former_takes b x = singly b.rule x b.pieces
 
 abbrev pub former_pieces : Book → Move → List Piece
 former_pieces b x = handed x (former_takes b x)
@@ -46,8 +48,11 @@ one_rule (set_rule s) = meaning (set_rule s)
 one_rule (ask q room) = meaning (ask q room)
 
 -- checks 1 and 4, a call's number, and the call on a head and a table
+abbrev pub former_count_tests : Head → List ℕ → List Bool
+former_count_tests h t = count_tests h t ++ (leb h.pieces h.accepted ∷ [])
+
 unfoldable pub one_rule_checks : Head → List ℕ → List Check
-one_rule_checks h t = 1 if ltb (length t) 4 ∷ 4 if not (all_of (count_tests h t ++ balanced h (pieces_of h.pieces t))) ∷ []
+one_rule_checks h t = 1 if ltb (length t) 4 ∷ 4 if not (all_of (former_count_tests h t ++ balanced h (pieces_of h.pieces t))) ∷ []
 
 unfoldable pub one_rule_number : Head → List ℕ → Call → ℕ
 one_rule_number h t c = first (one_rule_checks h t ++ (one_rule c).checks (places_of t) (book_of h t))

@@ -1,14 +1,15 @@
 -- A motion on a book known to add up: the pieces moved and the next head are together the book after it.
 -- Assumes nothing.
 use Rattle.std.specs.Option.{ok_or}
-use Rattle.std.proofs.Common.{◌≡◌, Option, Result, Ok, List, ℕ, ◌+◌, ◌-◌, ◌≤◌, ◌<◌, arith, eqb}
+use Rattle.std.proofs.Common.{◌≡◌, ◌∙◌, Option, Result, Ok, List, ℕ, ◌+◌, ◌-◌, ◌≤◌, ◌<◌, arith, eqb}
 use Rattle.std.proofs.lemmas.Bool.Decides.{nat_tests}
 use Rattle.table.specs.Pieces.{only, held, All}
 use Rattle.table.specs.Closing.{Present}
 use Rattle.table.specs.Table.{pieces_of, places_of}
 use Rattle.table.proofs.Pieces.{all_map}
 use Rattle.table.proofs.Table.{places_fit}
-use Rattle.taking.specs.Taking.{Taken, handed}
+use Rattle.taking.specs.Taken.{Taken}
+use Rattle.taking.specs.Taking.{handed, taken}
 use Rattle.moving.specs.declared.Applied.{Applied}
 use Rattle.moving.specs.Applied.{accepted, applied, Ready, Moves}
 use Rattle.refusal.specs.Numbers.{first}
@@ -20,7 +21,7 @@ use Rattle.book.specs.Motion.{takes, pieces_after, book_after}
 use Rattle.book.specs.Memory.{book_checks}
 use Rattle.book.proofs.HolderLaws.{holder_bound}
 use Rattle.book.proofs.BalanceLaws.{Holders, Matches, matches_balances, long_balances, shift_matches, shift_there}
-use Rattle.book.proofs.Sound.{takes_law, held_after}
+use Rattle.book.proofs.Sound.{takes_fair, held_after}
 use Rattle.book.proofs.Memory.{book_passed}
 use Rattle.book.proofs.Known.{Known, known_up}
 use Rattle.carrying.specs.Carrying.{Audited, Carriable, next_head, Countable}
@@ -47,7 +48,7 @@ module _ (h : Head) (t : List ℕ) (w : Audited h t) (m : Motion) where
   k = work_known h t w
 
   born_is : r.born ≡ m.moves.weight - held m.moves.source b.pieces
-  born_is = (takes_law b m).fair.born_is
+  born_is = (takes_fair b m).born_is
 
   -- what the source gives is what is not born
   after : (v : ℕ) → held v (handed m.moves r)
@@ -73,6 +74,10 @@ module _ (h : Head) (t : List ℕ) (w : Audited h t) (m : Motion) where
         let kept = shift_there h m.moves.source (balance_at h m.moves.source - (m.moves.weight - r.born)) m.moves.destination f.apart in
         grind (arith, born_is, k.balance m.moves.source, kept)
 
+    -- what the source holds is its balance
+    pub source_holds : (w : ℕ) → w ≡ balance_at h m.moves.source → w ≡ held m.moves.source (pieces_of h.pieces t)
+    source_holds w e = e ∙ k.balance m.moves.source
+
     -- what the move asks
     pub move_ready : (p : ℕ) → p ≡ places_of t → Ready h.pieces p m.moves t
     unfolding places_of
@@ -81,7 +86,7 @@ module _ (h : Head) (t : List ℕ) (w : Audited h t) (m : Motion) where
         grind (arith, k.few, places_fit t p p ep, present)
 
     module _ (p : ℕ) (ep : p ≡ places_of t) (rule : ℕ) (er : rule ≡ rule_at h.rules m.moves.source) (t' : List ℕ) (o : Option Applied)
-        (moves : Moves h.pieces p rule m.moves t t' o) where
+        (moves : Moves p m.moves (taken rule m.moves (pieces_of h.pieces t)) t t' o) where
       -- it was carried, whatever is answered where it was not
       module _ (a : Applied) (why : Refusal) (k : Result Applied Refusal) (ek : k ≡ ok_or o why) (ea : k ≡ Ok a) where
         -- what the next head asks

@@ -9,7 +9,7 @@ ghost use Rattle.carrying.specs.Carrying.{Audited, Carriable, next_head, Countab
 
 use book::{Head, Lift, Motion, SCALE, Tip, Transfer};
 use ledger::{balances, rules};
-use moving::{Applied, Workspace};
+use moving::{Applied, Holding, Workspace};
 use refusal::Refusal;
 use taking::Move;
 
@@ -101,8 +101,11 @@ pub fn carry(
 {
     let n = head.pieces as usize;
     let places = table::places(table);
-    let rule = rules::rule_at(head, m.moves.source);
-    let moved = moving::move_pieces(table, n, places, rule, m.moves, work).ok_or(
+    let from = Holding {
+        rule: rules::rule_at(head, m.moves.source),
+        balance: balances::balance_at(head, m.moves.source),
+    };
+    let moved = moving::move_pieces(table, n, places, from, m.moves, work).ok_or(
         Refusal::TableFull,
     )?;
     Ok(Carried {

@@ -7,11 +7,12 @@ ghost use Rattle.refusal.specs.Refusals.{outcome_number};
 ghost use Rattle.book.specs.Memory.{book_checks};
 ghost use Rattle.ledger.specs.Audit.{covers, drained};
 
-use super::opening::{self, LAST_RULE};
+use super::opening;
 use book::{HOLDERS, Head, MOST_VESSELS, SCALE};
 use refusal::Refusal;
 use table::Piece;
 use table::reading::Pieces;
+use taking::STIRRED;
 
 // What the pieces of a book have to fit: its count of vessels, and its last minute.
 #[derive(Clone, Copy, Debug, PartialEq, Eq)]
@@ -95,7 +96,7 @@ fn is_balanced(head: Head, pieces: &Pieces) -> bool
 fn all_known(rules: &[u32]) -> bool
     ensures { result ≡ list_all known_rule rules.now }
 {
-    rules.iter().all(|rule| *rule <= LAST_RULE)
+    rules.iter().all(|rule| *rule <= STIRRED)
 }
 
 // Whether each vessel's rule is known, and those from V on are 0.
@@ -117,7 +118,7 @@ pub fn adds_up(head: Head, table: &[u32]) -> bool
     if opening::check_opening(head.rule, head.vessels).is_err() || table::places(table) < n {
         return false;
     }
-    head.pieces <= head.accepted && rules_fit(head) && is_balanced(head, &Pieces::of(table, n))
+    rules_fit(head) && is_balanced(head, &Pieces::of(table, n))
 }
 
 // Checks 1 and 4, which every call makes first.

@@ -7,7 +7,7 @@ ghost use Rattle.book.specs.Head.{most_vessels, given_rules, empty_head, not_ope
 use book::{Head, MOST_VESSELS, Reply};
 use refusal::Refusal;
 
-// The rules are numbered from 0 to this.
+// The rules that a book can be opened with are numbered from 0 to this.
 pub const LAST_RULE: u32 = 3;
 
 // A book has at most this many vessels.

@@ -8,19 +8,16 @@ ghost use Rattle.book.specs.Calls.{set_rule};
 ghost use Rattle.book.specs.Memory.{number_of, call_on, replied};
 
 use super::audit;
-use super::opening::LAST_RULE;
 use book::{Head, Reply, SCALE, Setting};
 use refusal::Refusal;
+use taking::{AS_RECEIVED, STIRRED};
 
-// Rule 0, as a head has its number: what lies on the scale leaves it in the order it lies.
-const AS_THEY_LIE: u32 = 0;
-
-// The rule by which a holder's pieces are picked: the scale has none of its own.
+// The rule by which a holder's pieces are picked: the scale has none of its own, and what lies there leaves it in the order it lies.
 pub fn rule_at(head: Head, holder: u32) -> u32
     ensures { result ≡ rule_at head.rules holder }
 {
     if SCALE <= holder {
-        return AS_THEY_LIE;
+        return AS_RECEIVED;
     }
     let at = holder as usize;
     head.rules[at]
@@ -46,7 +43,7 @@ fn check_setting(vessels: u32, s: Setting) -> Result<(), Refusal>
     if vessels <= s.vessel {
         return Err(Refusal::NoVessel);
     }
-    if LAST_RULE < s.rule {
+    if STIRRED < s.rule {
         return Err(Refusal::RuleUnknown);
     }
     Ok(())

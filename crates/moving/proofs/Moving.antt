@@ -1,4 +1,4 @@
--- A transfer whole: the order and its plan give what `taken` says, so the plan tells whether there is room, and applying it gives
+-- One piece after the other goes: the order and its plan give what `singly` says, so the plan tells whether there is room, and applying it gives
 -- the answer and the table.
 -- Assumes nothing.
 use Rattle.std.proofs.Common.{◌≡◌, refl, sym, ap, ◌∙◌, Bool, true, false, cond, None, Some, List, [], ◌∷◌, ℕ, suc, ◌+◌, ◌-◌, ◌*◌, ◌≤◌, min, arith, leb, ltb, eqb, length, get_or, drop, drop_of_length-le, drop-cons, ltb-false}
@@ -11,14 +11,15 @@ use Rattle.picking.specs.declared.plan.Plan.{Plan}
 use Rattle.moving.specs.declared.Applied.{Applied}
 use Rattle.moving.specs.declared.apply.Withdrawal.{Withdrawal}
 use Rattle.taking.specs.declared.Move.{Move}
-use Rattle.taking.specs.Taking.{Taken, handed, taken}
+use Rattle.taking.specs.Taken.{Taken}
+use Rattle.taking.specs.Taking.{handed, singly}
 use Rattle.picking.specs.Plan.{at_key, in_order, count_of, plan_from, splits, lacking, taken_by, planned}
 use Rattle.moving.specs.Applied.{full, accepted, applied, table_left, Ready, Moves}
 use Rattle.picking.specs.Ordering.{Ordered}
 use Rattle.moving.specs.Parts.{Room, Applicable, Applies}
 use Rattle.picking.proofs.Keys.{length_in_order}
-use Rattle.picking.proofs.Planned.{taken_planned}
-use Rattle.taking.proofs.Taking.{taken_law}
+use Rattle.picking.proofs.Planned.{singly_planned}
+use Rattle.taking.proofs.Taking.{singly_law}
 use Rattle.taking.proofs.Handed.{handed_length}
 
 -- the plan takes no more keys than there are
@@ -48,7 +49,7 @@ module _ {n places rule : ℕ} {m : Move} {t : List ℕ} (ready : Ready n places
   ks = in_order o
 
   abbrev taking : Taken
-  taking = taken rule m ps
+  taking = singly rule m ps
 
   length_order : length ks ≡ count_of o
   length_order = length_in_order o
@@ -57,25 +58,25 @@ module _ {n places rule : ℕ} {m : Move} {t : List ℕ} (ready : Ready n places
   unfolding planned
   by_plan =
       let h : length ps ≤ most_places = rw length_pieces (omega (arith, ready.pieces, ready.most)) in
-      taken_planned rule m ps ready.source h ready.present ∙ rw (plan, ordered.order, read_is)
+      singly_planned rule m ps ready.source h ready.present ∙ rw (plan, ordered.order, read_is)
 
   whole_most : r.whole ≤ count_of o
   whole_most = rw plan (omega (arith, length_order, plan_most ks 0 m.weight read))
 
   rest : length taking.rest + taking.whole ≡ n
-  rest = let l = taken_law rule m ps in omega (arith, l.fair.longer, l.counted, length_pieces n t)
+  rest = let l = singly_law rule m ps in omega (arith, l.fair.longer, l.counted, length_pieces n t)
 
   size : length (handed m taking) ≡ n + min 1 r.left
   size =
       let e : taking.split + min 1 taking.born ≡ min 1 r.left = rw by_plan (one_of r.left (drop r.whole ks)) in
-      omega (arith, handed_length m ps taking (taken_law rule m ps).fair, length_pieces n t)
+      omega (arith, handed_length m ps taking (singly_law rule m ps).fair, length_pieces n t)
 
   -- a place more is wanted where something is left after the whole ones
   due : full places m taking ≡ cond (eqb r.left 0) false (leb places n)
   due = rw size (grind (arith, nat_tests, ready.pieces))
 
   module _ {b : Bool} (is : b ≡ cond (eqb r.left 0) false (leb places n)) where
-    pub move_refused : b ≡ true → Moves n places rule m t t None
+    pub move_refused : b ≡ true → Moves places m taking t t None
     unfolding applied table_left
     move_refused e = record { answer = rw (due ∙ sym is ∙ e); table = rw (due ∙ sym is ∙ e) }
 
@@ -101,7 +102,7 @@ module _ {n places rule : ℕ} {m : Move} {t : List ℕ} (ready : Ready n places
           let f : 4 * length (handed m taking) ≤ length t = omega (arith, ready.room) in
           record { rest = rw by_plan at rest; fits = rw by_plan at f }
 
-      pub move_applied : {t' : List ℕ} {a : Applied} → Applies w t t' a → Moves n places rule m t t' (Some a)
+      pub move_applied : {t' : List ℕ} {a : Applied} → Applies w t t' a → Moves places m taking t t' (Some a)
       unfolding applied table_left
       move_applied {a = a} done =
           let split = rw length_order at (by_next (splits r.left) (min 1 r.left) (λ k ks. refl) r.whole ks) in

@@ -5,7 +5,8 @@ use Rattle.table.specs.Pieces.{All}
 use Rattle.table.specs.Table.{most_places, pieces_of, lay}
 use Rattle.table.specs.Closing.{VACANT, Present}
 use Rattle.taking.specs.declared.Move.{Move}
-use Rattle.taking.specs.Taking.{Taken, handed, taken}
+use Rattle.taking.specs.Taken.{Taken}
+use Rattle.taking.specs.Taking.{handed}
 use Rattle.moving.specs.declared.Applied.{Applied}
 
 abbrev pub full : ℕ → Move → Taken → Bool
@@ -26,7 +27,7 @@ table_left places m r t = cond (full places m r) t (lay (handed m r) t)
 abbrev pub lifted_places : ℕ
 lifted_places = most_places + 1
 
--- What `move_pieces` asks: n pieces lie in the table t, which has so many places; and no holder is VACANT.
+-- What a move asks: n pieces lie in the table t, which has so many places; and no holder is VACANT.
 pub record Ready (n places : ℕ) (m : Move) (t : List ℕ) : Type 0 where
   pub pieces : n ≤ places
   pub most : places ≤ most_places
@@ -34,7 +35,7 @@ pub record Ready (n places : ℕ) (m : Move) (t : List ℕ) : Type 0 where
   pub source : m.source < VACANT
   pub present : All Present (pieces_of n t)
 
--- What it promises, of its answer and of the table after.
-pub record Moves (n places rule : ℕ) (m : Move) (t t' : List ℕ) (r : Option Applied) : Type 0 where
-  pub answer : r ≡ applied places m (taken rule m (pieces_of n t))
-  pub table : t' ≡ table_left places m (taken rule m (pieces_of n t)) t
+-- What it promises where r is to be taken, of its answer and of the table after.
+pub record Moves (places : ℕ) (m : Move) (r : Taken) (t t' : List ℕ) (o : Option Applied) : Type 0 where
+  pub answer : o ≡ applied places m r
+  pub table : t' ≡ table_left places m r t

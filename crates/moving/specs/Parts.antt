@@ -6,7 +6,8 @@ use Rattle.table.specs.declared.Piece.{Piece}
 use Rattle.table.specs.Pieces.{hand_to, of_weight, if_any}
 use Rattle.table.specs.Table.{most_places, pieces_of, lay, over, piece_in, put_in}
 use Rattle.table.specs.Closing.{vacated}
-use Rattle.taking.specs.Taking.{Taken, newborn, handed}
+use Rattle.taking.specs.Taken.{Taken}
+use Rattle.taking.specs.Taking.{newborn, handed}
 use Rattle.picking.specs.Plan.{place_of, in_order, count_of, vacate_all, picked, reduced, part, lacking, taken_by}
 use Rattle.moving.specs.declared.Applied.{Applied}
 use Rattle.moving.specs.declared.apply.Withdrawal.{Withdrawal}

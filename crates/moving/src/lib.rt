@@ -1,16 +1,19 @@
-// The pieces part of a transfer, in a constant number of passes over the table: the source's pieces are put in picking order, a plan
-// is made, and only if there is room for what it leaves is it applied.
+// The pieces part of a transfer, in a constant number of passes over the table: what the source's rule takes is found first, and only if there is
+// room for what it leaves is anything written. A stirred source gives from all its pieces, any other from one after the other.
 #![tactic(auto)]
 
 ghost use Rattle.std.specs.Prelude.{◌≡◌};
+ghost use Rattle.table.specs.Pieces.{held};
+ghost use Rattle.table.specs.Table.{pieces_of};
+ghost use Rattle.taking.specs.Taking.{taken};
 ghost use Rattle.moving.specs.Applied.{Ready, Moves};
 ghost use Rattle.moving.specs.Workspace.{blank};
 
-use apply::Withdrawal;
-use table::reading::Pieces;
-use taking::Move;
+use taking::{AS_RECEIVED, Move, STIRRED};
 
 mod apply; // apply.rt: a plan is applied
+mod singly; // singly.rt: one piece after the other goes
+mod stirring; // stirring.rt: every piece gives
 
 // The memory for keys, and as much to sort them: one for each place.
 pub const KEYS: usize = table::PLACES;
@@ -28,6 +31,13 @@ pub struct Applied {
     pub split: u32,
     pub born: u32,
     pub count: usize,
+}
+
+// What a source has: the rule by which it gives, and its balance.
+#[derive(Clone, Copy, Debug, PartialEq, Eq)]
+pub struct Holding {
+    pub rule: u32,
+    pub balance: u32,
 }
 
 // Memory to work in, for keys and to sort them, and for lifted pieces. What it holds afterwards is not laid down.
@@ -52,37 +62,24 @@ impl Workspace {
     }
 }
 
-// Moves the weight from source to destination under the rule, and says what was done. If the pieces afterwards would exceed the
+// Moves the weight from source to destination as the source gives, and says what was done. If the pieces afterwards would exceed the
 // places, the table is not written and the answer is `None`.
-#[tactic(auto, using(table::proofs::Table::length_pieces))]
 pub fn move_pieces(
     table: &mut [u32],
     n: usize,
     places: usize,
-    rule: u32,
+    from: Holding,
     m: Move,
     work: &mut Workspace,
 ) -> Option<Applied>
-    requires { Ready n places m table.old }
-    ensures { Moves n places rule m table.old table.new result }
+    requires { Ready n places m table.old × (from.balance ≡ held m.source (pieces_of n table.old)) }
+    ensures { Moves places m (taken from.rule m (pieces_of n table.old)) table.old table.new result }
 {
-    let pieces = Pieces::of(table, n);
-    let order = picking::selection::picking_order(
-        &pieces,
-        rule,
-        m.source,
-        &mut work.keys,
-        &mut work.spare,
-    );
-    let plan = picking::plan::plan_of(&pieces, order, m.weight);
-    if plan.is_full(n, places) {
-        return None;
+    if from.rule != STIRRED {
+        return singly::move_singly(table, n, places, from.rule, m, work);
     }
-    let withdrawal = Withdrawal {
-        count: n,
-        order,
-        plan,
-        asked: m,
-    };
-    Some(withdrawal.apply(table, &mut work.lifted))
+    if m.weight < from.balance {
+        return stirring::move_stirred(table, n, places, from.balance, m, work);
+    }
+    singly::move_singly(table, n, places, AS_RECEIVED, m, work)
 }

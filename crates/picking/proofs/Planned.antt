@@ -1,6 +1,5 @@
--- What is taken by plan is what a transfer takes, for every rule. In the plan a picked piece leaves a vacant place; in `taken` those
--- behind it close up at once. So at each pick the pieces of `taken` are those that stay in the plan, and the pick is the first key of the order
--- (proofs/Picks.antt).
+-- What is taken by plan is what the four first rules take. In the plan a picked piece leaves a vacant place; in `singly` those behind it close up at
+-- once. So at each pick the pieces of `singly` are those that stay in the plan, and the pick is the first key of the order (proofs/Picks.antt).
 -- Assumes nothing.
 use Rattle.std.proofs.Common.{◌≡◌, refl, sym, ap, ◌∙◌, ◌≢◌, Bool, true, false, List, [], ◌∷◌, ◌++◌, ℕ, zero, suc, ◌+◌, ◌-◌, ◌≤◌, ◌<◌, min, arith, leb, eqb, length, get_or, set, length-append, eqb-true, ne_eqb}
 use mathlib.Core.List.{reverse-append}
@@ -20,7 +19,8 @@ use Rattle.sorting.proofs.Laws.{length_sort}
 use Rattle.picking.specs.declared.plan.Plan.{Plan}
 use Rattle.taking.specs.Selection.{Found, nothing, at, select}
 use Rattle.taking.specs.declared.Move.{Move}
-use Rattle.taking.specs.Taking.{Taken, stop, one_whole, take_from, take_found, take_next, take_up_to, taken}
+use Rattle.taking.specs.Taken.{Taken, stop, one_whole}
+use Rattle.taking.specs.Taking.{take_from, take_found, take_next, take_up_to, singly}
 use Rattle.picking.specs.Plan.{by_birth, backwards, key_of, place_of, at_key, keys_of, turned, order_of, vacate_at, vacate_all, picked, halt, plan_from, reduced, taken_by, planned}
 use Rattle.picking.proofs.Picks.{prefers, rule_is, place_key, Headed, Picked, picks_first}
 
@@ -180,10 +180,10 @@ length_order old true s i ps = rw (length-reverse, length_sort) (length_keys old
 length_order old false s i ps = rw length_sort (length_keys old s i ps)
 
 -- The theorem.
-pub taken_planned : (rule : ℕ) (x : Move) (ps : List Piece) → x.source < VACANT → length ps ≤ most_places → All Present ps
-    → taken rule x ps ≡ planned rule x ps
-unfolding taken planned
-taken_planned rule x ps hs h u =
+pub singly_planned : (rule : ℕ) (x : Move) (ps : List Piece) → x.source < VACANT → length ps ≤ most_places → All Present ps
+    → singly rule x ps ≡ planned rule x ps
+unfolding planned
+singly_planned rule x ps hs h u =
     let old = by_birth rule in
     let back = backwards rule in
     let apart : x.source ≢ VACANT = λ e. omega arith in

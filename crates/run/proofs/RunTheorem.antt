@@ -2,7 +2,7 @@
 -- the transfers in turn gives, up to and with the first that is refused. So demand 3 holds of it; and nothing is on the scale at its end, as a
 -- sheet knows no lift (`run_bare`), and every pick goes by its one rule (`run_one_rule`).
 -- Assumes nothing.
-use Rattle.std.proofs.Common.{◌≡◌, refl, sym, ap, ◌∙◌, List, [], ◌∷◌, ◌++◌, map, ℕ, zero, suc, ◌+◌, ◌-◌, ◌≤◌, arith, length, take, replicate}
+use Rattle.std.proofs.Common.{◌≡◌, refl, sym, ap, ◌∙◌, true, false, not, List, [], ◌∷◌, ◌++◌, map, ℕ, zero, suc, ◌+◌, ◌-◌, ◌≤◌, arith, length, take, replicate}
 use Rattle.refusal.specs.Numbers.{first, if_zero}
 use Rattle.refusal.proofs.Numbers.{first_zero}
 use Rattle.book.specs.declared.Head.{Head}
@@ -10,10 +10,11 @@ use Rattle.book.specs.declared.Transfer.{Transfer}
 use Rattle.book.specs.Head.{empty_head, open_checks, opens, opening}
 use Rattle.book.specs.Calls.{Call, post}
 use Rattle.book.specs.Memory.{Outcome, call_on}
-use Rattle.book.specs.Lists.{Journal, calls_on, without_settings, evens, numbers, Demand3}
+use Rattle.book.specs.Lists.{Journal, calls_on, without_settings, evens, numbers, stirs, sets_stirred, sets_none, Demand3}
 use Rattle.book.specs.OneRule.{one_rule_calls}
 use Rattle.book.proofs.Memory.{refused_memory, refused_even}
 use Rattle.book.proofs.Lists.{demand_3}
+use Rattle.book.proofs.Unstirred.{first_rules, answered_all}
 use Rattle.book.proofs.Scale.{post_scale}
 use Rattle.book.proofs.OneRule.{never_set, opened_unset}
 use Rattle.sheet.specs.Sheet.{rule_of, vessels_of, movements_of, read_number}
@@ -84,10 +85,17 @@ folds (x ∷ xs) i even h t = go (call_on h t (post x)).number refl (folds xs)
           all_made = λ z. absurd (omega arith);
         }
 
+-- transfers set no rule
+posts_set_none : (xs : List Transfer) → sets_none (map post xs) ≡ true
+posts_set_none [] = refl
+posts_set_none (x ∷ xs) = posts_set_none xs
+
 -- What holds of a run r that is not refused by its sheet or by 1.
 pub record RunOf (s t : List ℕ) (r : Running) : Type 0 where
   pub folded : Folds 0 0 (opening (rule_of s) (vessels_of s)).head t (transfers_of s) r
   pub demand : Demand3 (rule_of s) (vessels_of s) t (calls_from folded.tried (transfers_of s)) (calls_on (opening (rule_of s) (vessels_of s)).head t (calls_from folded.tried (transfers_of s)))
+  -- it never uses rule 4, so that its pieces are counted and its numbers forecast
+  pub unstirred : stirs (opening (rule_of s) (vessels_of s)).head t (calls_from folded.tried (transfers_of s)) ≡ false
   -- where none is refused the index is M
   pub passed : r.answer.number ≡ 0 → r.answer.index ≡ movements_of s
 
@@ -107,6 +115,10 @@ module _ (s t : List ℕ) (e : run_number s t ≡ 0) where
   run_theorem = rw runs (record {
     folded = f;
     demand = demand_3 (rule_of s) (vessels_of s) (opened_well s reads) t _;
+    unstirred =
+        let xs = take f.tried (transfers_of s) in
+        let given = answered_all (λ c. not (sets_stirred c)) (map post xs) (opening (rule_of s) (vessels_of s)).head t (posts_set_none xs) in
+        first_rules (rule_of s) (vessels_of s) (opened_well s reads) t (map post xs) given;
     passed = λ z. let k = f.all_made z ∙ length_groups _ _ (movements_of s) _ in omega (arith, rw z at f.index_is);
   })
     where
@@ -157,5 +169,6 @@ pub run_one_rule : (s t : List ℕ) (e : run_number s t ≡ 0)
 run_one_rule s t e =
     let f = (run_theorem s t e).folded in
     let xs = take f.tried (transfers_of s) in
-    let same = rw (without_posts xs) at (never_set (map post xs) (opening (rule_of s) (vessels_of s)).head t (opened_unset (rule_of s) (vessels_of s))) in
+    let fresh = opened_unset (rule_of s) (vessels_of s) in
+    let same = rw (without_posts xs) at (never_set (map post xs) (opening (rule_of s) (vessels_of s)).head t fresh.0 fresh.1) in
     (f.head_is ∙ ap (λ (j : Journal). j.head) same, f.table_is ∙ ap (λ (j : Journal). j.table) same)

@@ -2,16 +2,21 @@
 -- is what stayed, without those of c. The idea: the same piece is picked among fewer, and leaves the same behind; and more steps than there are
 -- pieces change nothing.
 -- Assumes nothing.
-use Rattle.std.proofs.Common.{◌≡◌, refl, sym, ap, ◌∙◌, ◌≢◌, Bool, true, false, cond, List, [], ◌∷◌, ◌++◌, ℕ, zero, suc, ◌-◌, ◌≤◌, arith, leb, eqb, length, length-append}
+use Rattle.std.proofs.Common.{◌≡◌, refl, sym, ap, ◌∙◌, ◌≢◌, Bool, true, false, cond, List, [], ◌∷◌, ◌++◌, ℕ, zero, suc, ◌-◌, ◌≤◌, arith, leb, eqb, length, length-append, ltb, ◌+◌, add-zero, ne_eqb}
+use borrow.Author.Tests.{eqb-false}
 use Rattle.std.proofs.lemmas.Bool.Decides.{nat_tests}
 use Rattle.table.specs.declared.Piece.{Piece}
-use Rattle.table.specs.Pieces.{of_weight}
+use Rattle.sharing.specs.Sharing.{share, shares}
+use Rattle.sharing.proofs.Shares.{share_none}
+use Rattle.table.specs.Pieces.{of_weight, weigh, in_vessel, held}
 use Rattle.table.proofs.Pieces.{all_if_any}
-use Rattle.taking.specs.Selection.{Found, nothing, at, behind, against, wins, select}
+use Rattle.taking.specs.Selection.{as_received, Found, nothing, at, behind, against, wins, select}
 use Rattle.taking.specs.declared.Move.{Move}
-use Rattle.taking.specs.Taking.{Taken, one_whole, take_from, take_found, take_next, take_up_to, taken, newborn, handed}
+use Rattle.taking.specs.Taken.{Taken, one_whole}
+use Rattle.taking.specs.Stirring.{stirred_rule, weights_in, stays, in_parts, gives, giving, stirred}
+use Rattle.taking.specs.Taking.{take_from, take_found, take_next, take_up_to, singly, taken, newborn, handed}
 use Rattle.taking.specs.Sweeping.{elsewhere}
-use Rattle.taking.proofs.HeldBy.{elsewhere_append, all_elsewhere}
+use Rattle.taking.proofs.HeldBy.{elsewhere_append, all_elsewhere, sum_elsewhere}
 use Rattle.taking.proofs.Taking.{Good, select_good}
 use Rattle.taking.proofs.Handed.{handed_away}
 
@@ -91,12 +96,57 @@ module _ (c : ℕ) where
         next true i = refl
         next false i = rw (select_apart ps) (found (select better s ps) (select_good better s ps) i)
 
--- under a rule
-pub apart_taken : (c rule : ℕ) (x : Move) (ps : List Piece) → c ≢ x.source → taken rule x (elsewhere c ps) ≡ taken_apart c (taken rule x ps)
-unfolding taken
-apart_taken c rule x ps apart =
+-- so it is under the four first rules
+apart_singly : (c rule : ℕ) (x : Move) (ps : List Piece) → c ≢ x.source → singly rule x (elsewhere c ps) ≡ taken_apart c (singly rule x ps)
+apart_singly c rule x ps apart =
     enough (wins rule) x.source (length (elsewhere c ps)) (length ps) x.weight (elsewhere c ps) (omega arith) (fewer c ps)
     ∙ same c (wins rule) x.source apart (length ps) x.weight ps
+
+-- A stirred vessel's pieces give the same among fewer: what c holds has no weight in the sums, and gives nothing.
+module _ (c s q T : ℕ) (apart : c ≢ s) where
+  gives_apart : (g : ℕ) (p : Piece) (r : Taken) → p.holder ≢ c → gives g p (taken_apart c r) ≡ taken_apart c (gives g p r)
+  unfolding elsewhere
+  gives_apart g p r ne = go (eqb g 0) (eqb g p.weight)
+    where
+      away : (w : ℕ) → elsewhere c (of_weight w p ∷ r.rest) ≡ of_weight w p ∷ elsewhere c r.rest
+      away w = rw (ne_eqb p.holder c ne) refl
+
+      go : (a b : Bool) → cond a (stays p (taken_apart c r)) (cond b (one_whole p (taken_apart c r)) (in_parts g p (taken_apart c r)))
+          ≡ taken_apart c (cond a (stays p r) (cond b (one_whole p r) (in_parts g p r)))
+      go true b = rw (away p.weight) refl
+      go false true = refl
+      go false false = rw (away (p.weight - g)) refl
+
+  stirred_same : (k : ℕ) (ps : List Piece)
+      → giving (shares q T k (weights_in s (elsewhere c ps))) (elsewhere c ps) ≡ taken_apart c (giving (shares q T k (weights_in s ps)) ps)
+  unfolding giving shares elsewhere
+  stirred_same k [] = refl
+  stirred_same k (p ∷ ps) = go (eqb p.holder c) refl (λ n. stirred_same n ps)
+    where
+      w : ℕ
+      w = weigh (in_vessel s) p
+
+      go : (t : Bool) → eqb p.holder c ≡ t → ((n : ℕ) → giving (shares q T n (weights_in s (elsewhere c ps))) (elsewhere c ps) ≡ taken_apart c (giving (shares q T n (weights_in s ps)) ps))
+          → giving (shares q T k (weights_in s (cond t (elsewhere c ps) (p ∷ elsewhere c ps)))) (cond t (elsewhere c ps) (p ∷ elsewhere c ps))
+          ≡ taken_apart c (gives (share q T k w) p (giving (shares q T (k + w) (weights_in s ps)) ps))
+      go true e i =
+          let z : w ≡ 0 = grind (arith, nat_tests) in
+          rw (z, share_none q T k, add-zero, e) (i k)
+      go false e i = rw (i (k + w)) (gives_apart (share q T k w) p _ (eqb-false _ _ e))
+
+-- under any rule
+pub apart_taken : (c rule : ℕ) (x : Move) (ps : List Piece) → c ≢ x.source → taken rule x (elsewhere c ps) ≡ taken_apart c (taken rule x ps)
+unfolding taken
+apart_taken c rule x ps apart = rw balance (go (eqb rule stirred_rule) (ltb x.weight (held x.source ps)))
+  where
+    balance : held x.source (elsewhere c ps) ≡ held x.source ps
+    balance = sum_elsewhere c (in_vessel x.source) (λ o b. ne_eqb c x.source apart) ps
+
+    go : (a b : Bool) → cond a (cond b (giving (shares x.weight (held x.source ps) 0 (weights_in x.source (elsewhere c ps))) (elsewhere c ps)) (singly as_received x (elsewhere c ps))) (singly rule x (elsewhere c ps))
+        ≡ taken_apart c (cond a (cond b (stirred x ps) (singly as_received x ps)) (singly rule x ps))
+    go true true = stirred_same c x.source x.weight (held x.source ps) apart 0 ps
+    go true false = apart_singly c as_received x ps apart
+    go false b = apart_singly c rule x ps apart
 
 -- and so it is after it was handed over, to another than c
 pub apart_handed : (c rule : ℕ) (x : Move) (ps : List Piece) → c ≢ x.source → c ≢ x.destination

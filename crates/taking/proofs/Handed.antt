@@ -7,7 +7,8 @@ use Rattle.table.specs.Pieces.{hand_to, only, sum, in_vessel, born_at, held, wei
 use Rattle.table.proofs.Pieces.{total_append, only_add, only_zero, sum_if_any, length_if_any, all_append, all_map, all_if_any}
 use Rattle.taking.specs.declared.Move.{Move}
 use Rattle.taking.specs.Sweeping.{held_by}
-use Rattle.taking.specs.Taking.{Taken, newborn, handed}
+use Rattle.taking.specs.Taken.{Taken}
+use Rattle.taking.specs.Taking.{newborn, handed}
 use Rattle.taking.proofs.HeldBy.{held_by_append, none_of_it}
 use Rattle.taking.proofs.Taking.{Reweigh, Fair}
 

@@ -8,7 +8,10 @@ use Rattle.table.specs.Pieces.{hand_to, All, done, also}
 use Rattle.table.proofs.Pieces.{all_append}
 use Rattle.taking.specs.Selection.{Found, nothing, at, wins, behind, against, select}
 use Rattle.taking.specs.declared.Move.{Move}
-use Rattle.taking.specs.Taking.{Taken, take_from, take_found, take_next, take_up_to, taken, handed}
+use Rattle.taking.specs.Taken.{Taken}
+use Rattle.taking.specs.Stirring.{stirred_rule}
+use Rattle.taking.specs.Taking.{take_from, take_found, take_next, take_up_to, taken, handed}
+use Rattle.taking.proofs.Stirring.{taken_singly}
 use Rattle.taking.specs.InTable.{Moved, with_one_more, move_from, move_found, move_next, move_up_to, in_table}
 
 -- pieces of others behind do not matter to the selection
@@ -55,9 +58,9 @@ module _ (better : Piece → Piece → Bool) (s : ℕ) where
         next true i = rw append-nil
         next false i = rw (select_append ps qs h) (found (select better s ps) i)
 
--- The theorem: document 01's wording, and what the proofs use.
-pub taken_in_table : (rule : ℕ) (x : Move) (ps : List Piece) → x.destination ≢ x.source
+-- The theorem: document 01's wording of the four first rules, and what the proofs use.
+pub taken_in_table : (rule : ℕ) (x : Move) (ps : List Piece) → rule ≢ stirred_rule → x.destination ≢ x.source
     → let r = taken rule x ps in in_table rule x ps ≡ record { pieces = handed x r; whole = r.whole; split = r.split; missing = r.born }
-unfolding in_table taken
-taken_in_table rule x ps apart =
-    rw (simp append-nil at (same (wins rule) x.source x.destination apart (length ps) x.weight ps [] done)) (simp append_assoc)
+unfolding in_table
+taken_in_table rule x ps first apart =
+    rw (taken_singly rule x ps first, simp append-nil at (same (wins rule) x.source x.destination apart (length ps) x.weight ps [] done)) (simp append_assoc)

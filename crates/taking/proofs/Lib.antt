@@ -1,5 +1,6 @@
 pub mod HeldBy
 pub mod Taking
+pub mod Stirring
 pub mod Handed
 pub mod Rules
 pub mod InTable

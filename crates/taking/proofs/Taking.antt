@@ -1,6 +1,6 @@
--- What every taking leaves, shown once, over any selection that picks a piece of the source while there is one: nothing is lost, the
--- given pieces and what is born make up the weight wanted, at most one piece more comes of it, and what others hold stays in its order.
--- `taken_law` says it of the four rules.
+-- What a taking that picks one piece after the other leaves, shown once, over any selection that picks a piece of the source while there is one: it is fair
+-- (nothing is lost, the given pieces and what is born make up the weight wanted, and what others hold stays in its order), and at most one piece more comes
+-- of it. `singly_law` says it of the four first rules. What a fair taking keeps is shown in Handed.antt, and that every rule is fair in Stirring.antt.
 -- Assumes nothing.
 use Rattle.std.proofs.Common.{◌≡◌, refl, sym, ap, ◌∙◌, ◌≢◌, Bool, true, false, cond, List, [], ◌∷◌, ◌++◌, ℕ, zero, suc, ◌+◌, ◌-◌, ◌≤◌, min, arith, leb, eqb, length, length-append, leb-true, leb-false, eqb-true, eq-eqb}
 use Rattle.std.proofs.lemmas.Grind.{common_steps}
@@ -12,7 +12,8 @@ use Rattle.taking.proofs.HeldBy.{held_by_append, passed_over}
 use Rattle.taking.specs.Selection.{Found, nothing, at, behind, against, select, wins}
 use Rattle.taking.specs.declared.Move.{Move}
 use Rattle.taking.specs.Sweeping.{held_by}
-use Rattle.taking.specs.Taking.{Taken, stop, take_from, take_found, take_next, take_up_to, taken}
+use Rattle.taking.specs.Taken.{Taken, stop}
+use Rattle.taking.specs.Taking.{take_from, take_found, take_next, take_up_to, singly}
 
 -- What a selection for vessel s owes: a piece of s where it stands, or nothing where s holds no weight.
 abbrev pub Good : ℕ → List Piece → Found → Type 0
@@ -119,7 +120,6 @@ module _ (s : ℕ) where
       go true e l = let z : want ≡ 0 = eqb-true _ _ e in law_stop want ps (omega arith)
       go false e l = let z : want ≢ 0 = eqb-false _ _ e in law_found n (take_up_to pick n) l want ps c (omega arith) (pick ps) (good ps)
 
--- What a transfer takes, under any rule.
-pub taken_law : (rule : ℕ) (x : Move) (ps : List Piece) → Law x.source x.weight ps (taken rule x ps)
-unfolding taken
-taken_law rule x ps = law x.source _ (select_good (wins rule) x.source) (length ps) x.weight ps (omega arith)
+-- What the four first rules take.
+pub singly_law : (rule : ℕ) (x : Move) (ps : List Piece) → Law x.source x.weight ps (singly rule x ps)
+singly_law rule x ps = law x.source _ (select_good (wins rule) x.source) (length ps) x.weight ps (omega arith)

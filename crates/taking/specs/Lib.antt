@@ -1,4 +1,6 @@
 pub mod Selection
+pub mod Taken
+pub mod Stirring
 pub mod Taking
 pub mod InTable
 pub mod Sweeping

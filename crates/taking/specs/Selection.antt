@@ -1,9 +1,13 @@
--- "A transfer": which piece of a vessel each rule picks. The pieces stand in order of receipt.
+-- "A transfer": which piece of a vessel each of the four first rules picks. The pieces stand in order of receipt.
 -- rule 0: earliest received first; rule 1: latest received first; rule 2: smallest birth minute, on a tie the earlier received;
 -- rule 3: largest birth minute, on a tie the later received. proofs/Rules.antt shows each of the four in these words.
 -- Definitions only. Assumes nothing.
 use Rattle.std.specs.Prelude.{Bool, true, false, cond, List, [], ◌∷◌, ℕ, leb, ltb, eqb}
 use Rattle.table.specs.declared.Piece.{Piece}
+
+-- rule 0
+abbrev pub as_received : ℕ
+as_received = 0
 
 -- The pieces before the picked one, the picked one, and those behind it; or none.
 pub data Found : Type 0 where

@@ -2,28 +2,13 @@
 -- First the weight is taken, then it is handed over: the destination plays no part in the picking. specs/InTable.antt has the
 -- same in document 01's own words, where each picked piece joins the end at once, and proofs/InTable.antt shows the two equal.
 -- Definitions only. Assumes nothing.
-use Rattle.std.specs.Prelude.{Bool, true, false, List, [], ◌∷◌, ◌++◌, map, ℕ, zero, suc, ◌-◌, leb, eqb, length}
+use Rattle.std.specs.Prelude.{Bool, true, false, cond, List, [], ◌∷◌, ◌++◌, map, ℕ, zero, suc, ◌-◌, leb, ltb, eqb, length}
 use Rattle.table.specs.declared.Piece.{Piece}
-use Rattle.table.specs.Pieces.{of_weight, hand_to, if_any}
+use Rattle.table.specs.Pieces.{of_weight, hand_to, if_any, held}
 use Rattle.taking.specs.declared.Move.{Move}
-use Rattle.taking.specs.Selection.{Found, nothing, at, wins, select}
-
--- What is taken: the pieces that stay, in their order; those given, in picked order, still with their old holder;
--- the number of pieces moved whole, of pieces split, and the weight born.
-pub record Taken : Type 0 where
-  pub rest : List Piece
-  pub given : List Piece
-  pub whole : ℕ
-  pub split : ℕ
-  pub born : ℕ
-
--- nothing more is taken, and what is still wanted will be born
-abbrev pub stop : ℕ → List Piece → Taken
-stop want ps = record { rest = ps; given = []; whole = 0; split = 0; born = want }
-
--- one piece more is given, whole
-abbrev pub one_whole : Piece → Taken → Taken
-one_whole p r = record { rest = r.rest; given = p ∷ r.given; whole = suc r.whole; split = r.split; born = r.born }
+use Rattle.taking.specs.Selection.{as_received, Found, nothing, at, wins, select}
+use Rattle.taking.specs.Taken.{Taken, stop, one_whole}
+use Rattle.taking.specs.Stirring.{stirred_rule, stirred}
 
 -- The piece p is picked from between b and a. "No heavier than the rest wanted": it leaves its place, and more may follow.
 -- "A heavier one stays in its place, reduced", and gives the weight still wanted.
@@ -46,9 +31,16 @@ unfoldable pub take_up_to : (List Piece → Found) → ℕ → ℕ → List Piec
 take_up_to pick zero want ps = stop want ps
 take_up_to pick (suc n) want ps = take_next pick (take_up_to pick n) want ps (eqb want 0)
 
--- What a transfer takes under a rule.
+-- What the four first rules take: one piece after the other.
+abbrev pub singly : ℕ → Move → List Piece → Taken
+singly rule x ps = take_up_to (select (wins rule) x.source) (length ps) x.weight ps
+
+-- What a transfer takes under a rule. Of a stirred vessel "with q ≥ T all moves, in order of receipt, and the rest is born": as rule 0 has it.
 unfoldable pub taken : ℕ → Move → List Piece → Taken
-taken rule x ps = take_up_to (select (wins rule) x.source) (length ps) x.weight ps
+taken rule x ps =
+    cond (eqb rule stirred_rule)
+    (cond (ltb x.weight (held x.source ps)) (stirred x ps) (singly as_received x ps))
+    (singly rule x ps)
 
 -- "If s runs out, the missing weight is born: a piece (d, s, t, missing) joins the end", with the birth minute of the move in place of t.
 abbrev pub newborn : Move → ℕ → Piece

@@ -2,6 +2,12 @@
 // that is shown in proofs/.
 #![tactic(auto)]
 
+// The rule that picks as pieces were received, the first first.
+pub const AS_RECEIVED: u32 = 0;
+
+// The rule of a stirred vessel, which gives from everything in it. It is the last that a vessel can have.
+pub const STIRRED: u32 = 4;
+
 // Weight that is to go from a holder to another. What the source lacks is born there, with this birth minute.
 #[derive(Clone, Copy, Debug, PartialEq, Eq)]
 pub struct Move {

@@ -1,14 +1,13 @@
--- `move_pieces` meets its contract: what the order and its plan promise tells whether there is room, and if so, what applying the
--- plan leaves is what is asked (proofs/Moving.antt).
+-- `move_pieces` meets its contract: which way the source gives is told by its rule, and by whether it has more than is wanted (proofs/Stirred.antt).
 use Rattle.std.proofs.Common.{rules}
-use Rattle.moving.proofs.Moving.{move_refused, move_room, move_applicable, move_applied}
+use Rattle.moving.proofs.Stirred.{by_rule, from_all, all_out}
 use Rattle.moving.proofs.move_pieces.Goals as goal
 
-pub returns-then-is_full : goal.returns-then-is_full
-returns-then-is_full c = search (rules, move_refused)
+pub returns-then-from-ne-STIRRED : goal.returns-then-from-ne-STIRRED
+returns-then-from-ne-STIRRED c = by_rule _ c.requires.1 c.if-from-ne-STIRRED.true c.move_singly.ensures
 
-pub apply-requires : goal.apply-requires
-apply-requires c = (search (rules, move_room), search (rules, move_applicable))
+pub returns-then-m-from : goal.returns-then-m-from
+returns-then-m-from c = from_all _ c.requires.1 (search rules) c.if-m-from.true c.move_stirred.ensures
 
 pub returns : goal.returns
-returns c = search (rules, move_applied)
+returns c = all_out _ c.requires.1 (search rules) (search rules) (search rules)
