@@ -161,20 +161,50 @@ impl Stirs {
     }
 }
 
-/// The pieces after a transfer of less than a stirred vessel holds: those that keep something, in their
-/// order, and what is given behind them.
-pub fn stirred(mut pieces: Vec<Piece>, t: Transfer) -> Vec<Piece> {
-    let mut given = Vec::new();
-    for share in shares(&pieces, t.source, t.weight) {
-        let p = &mut pieces[share.place];
-        p.weight -= share.gift;
-        given.push(Piece {
+/// The pieces after a transfer from a stirred vessel, and the counts of its answer: whole pieces, splits, and
+/// the weight born. If it holds more, those that keep something stay in their order, and what is given lies
+/// behind them. Else all go, in the order in which they lie, and what it lacks is born.
+pub fn stirred(pieces: Vec<Piece>, t: Transfer) -> (Vec<Piece>, [u32; 3]) {
+    let held = pieces.iter().filter(|p| p.holder == t.source);
+    let balance: u64 = held.map(|p| u64::from(p.weight)).sum();
+    if balance > t.weight.into() {
+        parted(pieces, t)
+    } else {
+        emptied(pieces, t, t.weight - balance as u32)
+    }
+}
+
+fn parted(mut pieces: Vec<Piece>, t: Transfer) -> (Vec<Piece>, [u32; 3]) {
+    let shares = shares(&pieces, t.source, t.weight);
+    for share in &shares {
+        let p = pieces[share.place];
+        pieces[share.place].weight -= share.gift;
+        pieces.push(Piece {
             holder: t.destination,
             weight: share.gift,
-            ..*p
+            ..p
         });
     }
-    pieces.append(&mut given);
     pieces.retain(|p| p.weight > 0);
-    pieces
+    let count = |which: fn(&Share) -> bool| shares.iter().filter(|share| which(share)).count();
+    let counts = [Share::whole, Share::split].map(|which| count(which) as u32);
+    (pieces, [counts[0], counts[1], 0])
+}
+
+fn emptied(pieces: Vec<Piece>, t: Transfer, born: u32) -> (Vec<Piece>, [u32; 3]) {
+    let (gone, mut pieces): (Vec<Piece>, Vec<Piece>) =
+        pieces.into_iter().partition(|p| p.holder == t.source);
+    let whole = gone.len() as u32;
+    let birth = Piece {
+        holder: t.destination,
+        origin: t.source,
+        birth: t.minute - u32::from(t.age),
+        weight: born,
+    };
+    let moved = gone.into_iter().map(|p| Piece {
+        holder: t.destination,
+        ..p
+    });
+    pieces.extend(moved.chain([birth]).filter(|p| p.weight > 0));
+    (pieces, [whole, 0, born])
 }

@@ -40,11 +40,9 @@ pub fn picked(rule: u32, pieces: &[Piece], vessel: u32) -> Option<usize> {
 
 /// Takes weight from a vessel that is stirred and holds more, onto the second scale.
 fn stir(pieces: &mut Vec<Piece>, l: Lift) -> [u32; 3] {
-    let before = pieces.len();
-    *pieces = stirred(std::mem::take(pieces), l.to(SECOND_SCALE));
-    let given = pieces.iter().filter(|p| p.holder == SECOND_SCALE).count();
-    let split = pieces.len() - before;
-    [(given - split) as u32, split as u32, 0]
+    let (left, counts) = stirred(std::mem::take(pieces), l.to(SECOND_SCALE));
+    *pieces = left;
+    counts
 }
 
 /// Takes weight from a vessel onto the second scale.
