@@ -62,7 +62,7 @@ fn books() {
     let mut random = Random::new(41);
     let mut seen = Seen::default();
     let mut several = 0;
-    for round in 0..6_000 {
+    for round in 0..10_000 {
         let (mut head, mut table) = any_book(&mut random, round);
         let transfer = transfer_for(&mut random, &head, &table);
         let (given_head, mut bare_table) = (head, table.clone());
@@ -113,7 +113,7 @@ fn books() {
         assert!(seen.0.get(&number) > Some(&20), "{number}: {:?}", seen.0);
     }
     assert!(!seen.0.contains_key(&Refusal::ScaleLoaded.number()));
-    assert!(several > 20, "{several}");
+    assert!(several > 15, "{several}");
 }
 
 #[test]
