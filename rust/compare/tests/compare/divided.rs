@@ -159,11 +159,13 @@ fn transfers_of(subject: &'static dyn Engine) {
             transfers_on(book, &mut pair, &mut random, &mut covered);
         }
     }
-    let [bare, loaded] = &covered;
+    let ([bare, loaded], stirs) = (&covered, &pair.stirs);
     pair.tally.print(&format!(
-        "divided, {} {bare:?} beside a load {loaded:?}",
+        "divided, {} {bare:?} beside a load {loaded:?} {stirs:?}",
         pair.label()
     ));
+    stirs.expect(50);
+    assert!(stirs.beside > 200);
     bare.expect(&[1, 5, 7, 8, 10, 11, 21], 50);
     loaded.expect(&[5, 7, 8, 10, 11, 21], 50);
 }

@@ -278,12 +278,12 @@ fn changes_of(subject: &'static dyn Engine) {
             giving.go(6);
         }
     }
-    let beside = &pair.beside;
+    let (label, stirs, beside) = (pair.label(), &pair.stirs, &pair.beside);
     pair.tally.print(&format!(
-        "rules that change, {} {covered:?} beside a load {beside:?}",
-        pair.label()
+        "rules that change, {label} {covered:?} {stirs:?} beside a load {beside:?}"
     ));
     covered.expect();
+    stirs.expect(15);
     pair.tally.expect("set rule", &[0, 2, 5], 100);
     for tally in [&pair.tally, beside] {
         assert!(tally.count("set rule", 0) > 3_000 && tally.count("transfer", 0) > 1_000);
