@@ -109,12 +109,14 @@ int main(void) {
         fputs("that is not what was worked out\n", stderr);
         return 1;
     }
-    /* The clock does not run back, nothing is milled before minute 0, the scale was emptied, there is no
-     * rule 4, and a refusal changes nothing. */
+    /* The clock does not run back, nothing is milled before minute 0, the scale was emptied, no rule is
+     * above that of a stirred vessel, which no book is opened by, and a refusal changes nothing. */
     if (lumchaki_transfer(head, table, 4 * PLACES, 2, 0, 9, 1, 0).number != LUMCHAKI_CLOCK_BACK ||
         lumchaki_transfer(head, table, 4 * PLACES, 2, 0, 10, 1, 11).number != LUMCHAKI_BEFORE_TIME ||
         lumchaki_tip(head, table, 4 * PLACES, 0, 10).number != LUMCHAKI_SCALE_BARE ||
-        lumchaki_set_rule(head, table, 4 * PLACES, 1, 4).number != LUMCHAKI_RULE_UNKNOWN ||
+        lumchaki_set_rule(head, table, 4 * PLACES, 1, LUMCHAKI_STIRRED + 1).number !=
+            LUMCHAKI_RULE_UNKNOWN ||
+        lumchaki_open(LUMCHAKI_STIRRED, VESSELS).number != LUMCHAKI_RULE_UNKNOWN ||
         memcmp(table, expected_pieces, sizeof expected_pieces) != 0) {
         fputs("what should be refused was not\n", stderr);
         return 1;

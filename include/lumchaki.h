@@ -37,19 +37,21 @@ enum {
     LUMCHAKI_MOVEMENT_NUMBERS = 5 /* the numbers that a movement is written from */
 };
 
-/* The rule of a vessel: which of its pieces go first. */
+/* The rule of a vessel: which of its pieces go first. A stirred one gives from all of them at once; that
+ * is for lumchaki_set_rule alone: openings and sheets have no rule above 3. */
 enum {
     LUMCHAKI_FIRST_RECEIVED = 0, /* earliest received first */
     LUMCHAKI_LAST_RECEIVED = 1,  /* latest received first */
     LUMCHAKI_FIRST_BORN = 2,     /* smallest birth minute, on a tie the earlier received */
-    LUMCHAKI_LAST_BORN = 3       /* largest birth minute, on a tie the later received */
+    LUMCHAKI_LAST_BORN = 3,      /* largest birth minute, on a tie the later received */
+    LUMCHAKI_STIRRED = 4         /* each piece gives its share */
 };
 
 /* The number of an answer: 0, or why the call was refused. Beside each stands the word of the paper. */
 enum {
     LUMCHAKI_ACCEPTED = 0,
     LUMCHAKI_TABLE_SHORT = 1,   /* "no tray": the table has fewer than 4 numbers */
-    LUMCHAKI_RULE_UNKNOWN = 2,  /* "rule unknown": the rule is above 3 */
+    LUMCHAKI_RULE_UNKNOWN = 2,  /* "rule unknown": the rule is above 3, one to be set above 4 */
     LUMCHAKI_VESSEL_COUNT = 3,  /* "vessel count": the count of vessels is not 1 to 64 */
     LUMCHAKI_BOOK_OFF = 4,      /* "book off": head and table are no book that adds up */
     LUMCHAKI_NO_VESSEL = 5,     /* "no vessel": a vessel or origin is not below the count */
@@ -58,7 +60,7 @@ enum {
     LUMCHAKI_CLOCK_BACK = 8,    /* "clock back": the minute is before the last accepted one */
     LUMCHAKI_OVERFULL = 9,      /* "overfull": the destination's balance would pass 4,294,967,295 */
     LUMCHAKI_TALLY_FULL = 10,   /* "tally full": 4,294,967,295 transfers and lifts were accepted */
-    LUMCHAKI_TABLE_FULL = 11,   /* "tray full": a split or birth is due and no place is free */
+    LUMCHAKI_TABLE_FULL = 11,   /* "tray full": the pieces afterwards would exceed the places */
     LUMCHAKI_SPAN_BACK = 12,    /* "span back": the span ends before it starts */
     LUMCHAKI_REPORT_SHORT = 13, /* "short form": the room for the report is too small */
     LUMCHAKI_NO_SHEET = 14,     /* "no sheet": fewer than 24 bytes, or another mark */
@@ -76,20 +78,22 @@ enum {
 /* The head of a book. A fresh one comes from lumchaki_open. `rule` stays as the book was opened and picks
  * nothing: what leaves a vessel is picked by the vessel's own rule, which lumchaki_set_rule sets. */
 typedef struct {
-    uint32_t rule;     /* the rule that each vessel got at the opening */
+    uint32_t rule;     /* the rule that each vessel got at the opening, 0 to 3 */
     uint32_t vessels;  /* 1 to 64 */
     uint32_t pieces;   /* so many pieces lie in the table */
     uint32_t last;     /* the minute of the last accepted transfer, lift or tip */
     uint32_t accepted; /* how many transfers and lifts were accepted */
     uint32_t balances[LUMCHAKI_VESSELS]; /* grams in each vessel, 0 from `vessels` on */
     uint32_t scale;    /* grams on the scale */
-    uint32_t rules[LUMCHAKI_VESSELS]; /* the rule of each vessel, 0 from `vessels` on */
+    uint32_t rules[LUMCHAKI_VESSELS]; /* the rule of each vessel, 0 to 4; 0 from `vessels` on */
 } lumchaki_head;
 
 /* A piece is four numbers of the table: holder, origin, birth minute, weight in grams. The holder is a
  * vessel, or LUMCHAKI_SCALE for a piece on the scale; the origin is a vessel. Piece i starts at number
  * 4 * i; the pieces lie in order of receipt. A table has a place for every four numbers, but never more
- * than 4,096. Numbers behind the last piece are never written. */
+ * than 4,096. Numbers behind the last piece are never written. Under rules 0 to 3 a transfer or lift adds
+ * one piece at most; from a stirred vessel it may split all of them, so that there can be more pieces
+ * than `accepted`. */
 
 typedef struct {
     uint32_t number;
@@ -100,7 +104,7 @@ typedef struct {
     uint32_t number;
     lumchaki_head head; /* the next head; the one given on a refusal */
     uint32_t whole;     /* how many pieces moved whole */
-    uint32_t split;     /* how many pieces were split: 0 or 1 */
+    uint32_t split;     /* how many pieces were split: 0 or 1, but for a stirred source */
     uint32_t born;      /* the weight that the source lacked, born there */
 } lumchaki_transferred;
 
@@ -145,16 +149,24 @@ typedef struct {
 /* Opens a book and gives every vessel its rule. Checks 2, 3. */
 lumchaki_opened lumchaki_open(uint32_t rule, uint32_t vessels);
 
-/* Sets the rule of a vessel, by which all later transfers and lifts pick from it. It may be set at any
- * moment, also while the scale is loaded, which has no rule: a tip takes what lies there in its order. An
- * accepted setting changes this one number of the head. It has no minute and counts as no transfer, and
- * the table is only read. Checks 1, 4, 5, 2. */
+/* Sets the rule of a vessel, 0 to 4, by which all later transfers and lifts pick from it. It may be set
+ * at any moment, also while the scale is loaded, which has no rule: a tip takes what lies there in its
+ * order. An accepted setting changes this one number of the head. It has no minute and counts as no
+ * transfer, and the table is only read. Checks 1, 4, 5, 2. */
 lumchaki_rule_set lumchaki_set_rule(lumchaki_head head, const uint32_t *table, size_t table_len,
                                     uint32_t vessel, uint32_t rule);
 
 /* Transfers weight from source to destination at a minute. Pieces of the source are picked by its rule
  * until the weight is reached; what the source lacks is born there. What is born was milled `age`
- * minutes before: its birth minute is minute - age. Checks 1, 4, 5 to 8, 21, 9 to 11. */
+ * minutes before: its birth minute is minute - age. Checks 1, 4, 5 to 8, 21, 9 to 11.
+ *
+ * A stirred source (rule 4) that holds more than the weight gives from everything in it. In order of
+ * receipt, its pieces up to each one give weight * C / T, rounded down, where C is what they weigh and T
+ * what the source holds; what the ones before do not give of it, the piece itself does. That is its share
+ * to within less than a gram, and all together give the weight. A piece that gives 0 stays as it is, one
+ * that gives all moves whole, and any other is split: the rest of it stays in its place. What is given
+ * joins the end, whole pieces and parts alike, in order of receipt. 11 comes where there are more splits
+ * than free places. A stirred source that holds no more than the weight gives all, in that order. */
 lumchaki_transferred lumchaki_transfer(lumchaki_head head, uint32_t *table, size_t table_len,
                                        uint32_t source, uint32_t destination, uint32_t minute,
                                        uint32_t weight, uint16_t age);
@@ -165,8 +177,8 @@ lumchaki_transferred lumchaki_transfer(lumchaki_head head, uint32_t *table, size
  * is refused with 22. Transfers and reports go on: a transfer leaves what a lift onto a second, empty
  * scale and its tip would leave. No call takes the scale's number for a vessel: that is 5. */
 
-/* Lifts weight from source onto the scale at a minute, picked and born as in a transfer. It counts as a
- * transfer. Checks 1, 4, 22, 5, 7, 8, 21, 10, 11. */
+/* Lifts weight from source onto the scale at a minute, picked and born as in a transfer, from a stirred
+ * source too. It counts as a transfer. Checks 1, 4, 22, 5, 7, 8, 21, 10, 11. */
 lumchaki_transferred lumchaki_lift(lumchaki_head head, uint32_t *table, size_t table_len,
                                    uint32_t source, uint32_t minute, uint32_t weight, uint16_t age);
 

@@ -1,19 +1,17 @@
 //! What is timed. Each row takes an engine, or none for the second implementation, whose single
 //! calls are timed on a book of its own: taking a head and a table apart is no part of its work.
 
+use crate::book::{Full, Timed};
 use crate::clock::best;
-use calls::{Engine, Head, Piece, Refusal, Reported, Transfer, PLACES, VESSELS};
+use calls::{Engine, Head, Refusal, Reported, Transfer, PLACES, VESSELS};
 use compare::{aged_day, heaviest, working_day, Random};
 use second::{Book, Second};
-
-/// An engine, or the second implementation.
-type Timed = Option<&'static dyn Engine>;
 
 /// A row of the table: what is timed, and how to time it.
 type Row = (&'static str, fn(&Loads, Timed) -> f64);
 
 /// The rows of the table.
-pub const ROWS: [Row; 11] = [
+pub const ROWS: [Row; 13] = [
     ("heaviest sheet, 4,096 movements", Loads::heaviest),
     ("bakery's day, 4,096 movements", Loads::day),
     ("the same day, ages in any order", Loads::aged_day),
@@ -21,6 +19,8 @@ pub const ROWS: [Row; 11] = [
     ("the same, by lift and tip", Loads::light_divided),
     ("heavy transfer, 4,096 pieces whole", Loads::heavy),
     ("the same, by lift and tip", Loads::heavy_divided),
+    ("stirred transfer, 2,048 splits", Loads::stirred),
+    ("the same of 4,096 crumbs, no split", Loads::crumbs),
     ("held report, 4,096 pieces", Loads::held),
     ("spread report, 4,096 pieces", Loads::spread),
     ("whole report, 4,096 pieces", Loads::whole),
@@ -38,13 +38,6 @@ pub fn writing() -> f64 {
     best(|| vec![7; SQUARE], |room| room.fill(0))
 }
 
-/// A head, its table, and the same book in the second implementation.
-struct Full {
-    head: Head,
-    table: Vec<u32>,
-    second: Book,
-}
-
 /// The sheets and books of one rule.
 pub struct Loads {
     heaviest: Vec<u8>,
@@ -57,97 +50,9 @@ pub struct Loads {
     full: Full,
     /// 4,096 pieces in vessel 0.
     heap: Full,
-}
-
-/// A book of pieces of 1 to 5 kg born at any minute of a day, in the first `vessels` vessels.
-fn book_of(random: &mut Random, rule: u32, pieces: usize, vessels: u32) -> Full {
-    const DAY: u32 = 1440;
-    let mut table = vec![0; 4 * PLACES];
-    let mut head = Head {
-        rule,
-        vessels: VESSELS as u32,
-        pieces: pieces as u32,
-        last: DAY,
-        accepted: pieces as u32,
-        rules: [rule; VESSELS],
-        ..Head::ZERO
-    };
-    for place in table.chunks_exact_mut(4).take(pieces) {
-        let piece = Piece {
-            holder: random.below(vessels),
-            origin: random.below(VESSELS as u32),
-            birth: random.below(DAY),
-            weight: random.from_to(1_000, 5_000),
-        };
-        head.balances[piece.holder as usize] += piece.weight;
-        place.copy_from_slice(&piece.numbers());
-    }
-    let listed: Vec<Piece> = Piece::all(&head, &table).collect();
-    let second = Book::resume(&head, PLACES, &listed).expect("the book adds up");
-    Full {
-        head,
-        table,
-        second,
-    }
-}
-
-impl Full {
-    /// The time of some transfers, one after the other, from this book on, and of a single one. They
-    /// are made by an engine, which gives the next head, or by the second implementation.
-    fn time(
-        &self,
-        engine: Timed,
-        transfers: &[Transfer],
-        by_engine: impl Fn(&dyn Engine, Head, &mut [u32], Transfer) -> Head,
-        by_second: impl Fn(&mut Book, Transfer),
-    ) -> f64 {
-        let seconds = match engine {
-            Some(engine) => best(
-                || (self.head, self.table.clone()),
-                |(head, table)| {
-                    for t in transfers {
-                        *head = by_engine(engine, *head, table, *t);
-                    }
-                },
-            ),
-            None => best(
-                || self.second.clone(),
-                |book| {
-                    for t in transfers {
-                        by_second(book, *t);
-                    }
-                },
-            ),
-        };
-        seconds / transfers.len() as f64
-    }
-
-    fn transfers(&self, engine: Timed, transfers: &[Transfer]) -> f64 {
-        let by_engine = |engine: &dyn Engine, head, table: &mut [u32], t| {
-            let answer = engine.transfer(head, table, t);
-            assert_eq!(answer.number, 0);
-            answer.head
-        };
-        let by_second = |book: &mut Book, t| {
-            book.transfer(t).expect("accepted");
-        };
-        self.time(engine, transfers, by_engine, by_second)
-    }
-
-    /// Each transfer is divided: both halves are timed together.
-    fn divided(&self, engine: Timed, transfers: &[Transfer]) -> f64 {
-        let by_engine = |engine: &dyn Engine, head, table: &mut [u32], t: Transfer| {
-            let lifted = engine.lift(head, table, t.lift());
-            let tipped = engine.tip(lifted.head, table, t.tip());
-            assert_eq!((lifted.number, tipped.number), (0, 0));
-            tipped.head
-        };
-        let by_second = |book: &mut Book, t: Transfer| {
-            book.lift(t.lift()).expect("accepted");
-            book.tip(t.tip()).expect("accepted");
-        };
-        self.time(engine, transfers, by_engine, by_second)
-    }
+    /// 2,048 pieces in vessel 0, which is stirred, and 4,096 pieces of a gram.
+    stirred: Full,
+    crumbs: Full,
 }
 
 /// The time of a sheet's run on a table of 4,096 places.
@@ -159,6 +64,13 @@ fn run(engine: Timed, sheet: &[u8]) -> f64 {
     )
 }
 
+/// The time of a transfer of half of what a stirred vessel holds: each of its pieces gives about a half. It
+/// has that rule whatever the others have.
+fn half_of(book: &Full, engine: Timed) -> f64 {
+    let Head { last, balances, .. } = book.head;
+    book.transfers(engine, &[Transfer::new([0, 1, last, balances[0] / 2])])
+}
+
 impl Loads {
     pub fn new(rule: u32) -> Loads {
         const SEED: u64 = 51;
@@ -167,9 +79,11 @@ impl Loads {
             heaviest: heaviest(rule).bytes(),
             day: working_day(&mut random, rule).bytes(),
             aged_day: aged_day(&mut Random::new(SEED), rule).bytes(),
-            nearly_full: book_of(&mut random, rule, PLACES - LIGHT, VESSELS as u32),
-            full: book_of(&mut random, rule, PLACES, VESSELS as u32),
-            heap: book_of(&mut random, rule, PLACES, 1),
+            nearly_full: Full::of(&mut random, rule, PLACES - LIGHT, VESSELS as u32),
+            full: Full::of(&mut random, rule, PLACES, VESSELS as u32),
+            heap: Full::of(&mut random, rule, PLACES, 1),
+            stirred: Full::stirred(&mut random, rule, PLACES / 2, (1_000, 5_000)),
+            crumbs: Full::stirred(&mut random, rule, PLACES, (1, 1)),
         }
     }
 
@@ -232,6 +146,14 @@ impl Loads {
 
     fn heavy_divided(&self, engine: Timed) -> f64 {
         self.heap.divided(engine, &self.heavy_transfers())
+    }
+
+    fn stirred(&self, engine: Timed) -> f64 {
+        half_of(&self.stirred, engine)
+    }
+
+    fn crumbs(&self, engine: Timed) -> f64 {
+        half_of(&self.crumbs, engine)
     }
 
     /// The time of a report on the full table, to room for so many numbers: made by an engine, or by

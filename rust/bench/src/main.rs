@@ -4,6 +4,7 @@
 //!
 //! `cargo run --release -p bench`, or with `--no-default-features` without the library.
 
+mod book;
 mod clock;
 mod loads;
 mod table;

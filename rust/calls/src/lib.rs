@@ -12,7 +12,7 @@ pub use asked::{Lift, Tip, Transfer};
 pub use engine::Engine;
 pub use records::{
     places, Head, Movement, Opened, Piece, Ran, Reading, Reported, RuleSet, Tipped, Transferred,
-    MOVEMENTS, MOVEMENT_BYTES, MOVEMENT_NUMBERS, NAME_BYTES, PLACES, SCALE, SHEET_HEADER, TOP,
-    VESSELS,
+    MOVEMENTS, MOVEMENT_BYTES, MOVEMENT_NUMBERS, NAME_BYTES, PLACES, SCALE, SHEET_HEADER, STIRRED,
+    TOP, VESSELS,
 };
 pub use refusal::Refusal;

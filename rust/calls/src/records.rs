@@ -6,6 +6,10 @@ pub const VESSELS: usize = 64;
 /// The holder number of the scale: the least that no vessel has.
 pub const SCALE: u32 = 64;
 
+/// The rule of a stirred vessel, of which every piece gives its share. It can be set for a vessel, and no
+/// book is opened by it.
+pub const STIRRED: u32 = 4;
+
 /// A table never counts more places than this.
 pub const PLACES: usize = 4096;
 
@@ -46,7 +50,8 @@ pub struct Head {
     /// The weight on the scale.
     pub scale: u32,
     /// The rule of each vessel, by which its pieces are picked: 0 earliest received first, 1 latest
-    /// received first, 2 smallest birth minute, 3 largest. 0 from `vessels` on.
+    /// received first, 2 smallest birth minute, 3 largest, 4 all of them by their shares. 0 from `vessels`
+    /// on.
     pub rules: [u32; VESSELS],
 }
 
@@ -120,7 +125,7 @@ pub struct Transferred {
     pub head: Head,
     /// How many pieces moved whole.
     pub whole: u32,
-    /// How many pieces were split: 0 or 1.
+    /// How many pieces were split: 0 or 1, but for a stirred source.
     pub split: u32,
     /// The weight that the source lacked, born there.
     pub born: u32,

@@ -9,7 +9,7 @@ use core::fmt;
 pub enum Refusal {
     /// The table has fewer than 4 numbers.
     TableShort = 1,
-    /// The rule is above 3.
+    /// The rule is above 3; one that is to be set for a vessel, above 4.
     RuleUnknown = 2,
     /// The count of vessels is not 1 to 64.
     VesselCount = 3,
@@ -27,7 +27,7 @@ pub enum Refusal {
     Overfull = 9,
     /// 4,294,967,295 transfers and lifts were accepted already.
     TallyFull = 10,
-    /// A split or birth is due and no place is free.
+    /// The pieces afterwards would exceed the places.
     TableFull = 11,
     /// The span ends before it starts.
     SpanBack = 12,

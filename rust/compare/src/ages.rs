@@ -64,7 +64,7 @@ impl Ages {
         if answer.number != 0 {
             return;
         }
-        let by_birth = |holder: u32| head.rules.get(holder as usize) >= Some(&2);
+        let by_birth = |holder: u32| matches!(head.rules.get(holder as usize), Some(2 | 3));
         let pieces = || Piece::all(head, table);
         let held = |vessel| move |p: &Piece| p.holder == vessel;
         if answer.born > 0 && age > 0 {

@@ -1,7 +1,7 @@
 //! Books to compare on that add up.
 
 use crate::Random;
-use calls::{places, Head, Piece, SCALE, TOP, VESSELS};
+use calls::{places, Head, Piece, SCALE, STIRRED, TOP, VESSELS};
 
 /// Numbers to be overwritten: not zeros, so that what remains can be told.
 pub fn room(random: &mut Random, length: usize) -> Vec<u32> {
@@ -11,16 +11,19 @@ pub fn room(random: &mut Random, length: usize) -> Vec<u32> {
 /// Any rule for each of so many vessels, and 0 behind them.
 pub fn mixed_rules(random: &mut Random, vessels: u32) -> [u32; VESSELS] {
     let mut rules = [0; VESSELS];
-    rules[..vessels as usize].fill_with(|| random.below(4));
+    rules[..vessels as usize].fill_with(|| random.below(STIRRED + 1));
     rules
 }
 
-/// The head of a book without pieces. In half of them each vessel has the book's rule, in the others any.
+/// The head of a book without pieces. In four of nine each vessel has the book's rule, in one all are
+/// stirred, and in the others each has any rule.
 fn bare_head(random: &mut Random, rule: u32) -> Head {
     let vessels = random.one_of(&[1, 2, 2, 2, 3, 3, 3, 4, 4, 7, 63, 64]);
     let mut rules = mixed_rules(random, vessels);
-    if random.once_in(2) {
-        rules[..vessels as usize].fill(rule);
+    match random.below(9) {
+        0..=3 => rules[..vessels as usize].fill(rule),
+        4 => rules[..vessels as usize].fill(STIRRED),
+        _ => {}
     }
     Head {
         rule,
@@ -50,7 +53,7 @@ fn filled(random: &mut Random, rule: u32, length: usize, loaded: bool) -> (Head,
     let places = places(&table) as u32;
     let mut head = bare_head(random, rule);
     let some = random.below(places + 1);
-    let count = random.one_of(&[places, places.saturating_sub(1), some]);
+    let count = random.one_of(&[places, places.saturating_sub(1), some, some / 2]);
     let count = count.max(u32::from(loaded)).min(places) as usize;
     let heavy = random.once_in(4);
     // One of so many pieces is on the scale, and one in any case.
@@ -81,12 +84,14 @@ fn filled(random: &mut Random, rule: u32, length: usize, loaded: bool) -> (Head,
     (head, table)
 }
 
-/// A count of accepted transfers and lifts that so many pieces can come from.
+/// A count of accepted transfers and lifts: any, since a stirred vessel makes many pieces of one transfer.
 fn accepted(random: &mut Random, pieces: u32) -> u32 {
     match random.below(20) {
         0 => TOP,
         1 => TOP - 1,
-        2..=9 => pieces,
+        2..=5 => pieces,
+        6 => pieces.saturating_sub(1),
+        7..=9 => random.below(pieces + 1),
         _ => pieces + random.below(1000),
     }
 }

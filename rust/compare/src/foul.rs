@@ -3,17 +3,16 @@
 use crate::books::balance_of;
 use crate::make::near;
 use crate::Random;
-use calls::{places, Head, SCALE, TOP, VESSELS};
+use calls::{places, Head, SCALE, STIRRED, TOP, VESSELS};
 
 /// The clauses of "adds up", each with a way to break it alone.
-pub const FOUL_CLAUSES: [&str; 24] = [
+pub const FOUL_CLAUSES: [&str; 23] = [
     "rule",
     "rule of a vessel",
     "rule beyond the vessels",
     "no vessels",
     "too many vessels",
     "pieces above places",
-    "pieces above accepted",
     "holder",
     "holder that marks a gone piece",
     "holder behind the scale",
@@ -50,10 +49,6 @@ pub fn foul_book(random: &mut Random, clause: &str, head: &mut Head, table: &mut
         "too many vessels" => head.vessels = near(random, &[65, 128]).max(65),
         "pieces above places" => {
             head.pieces = places(table) as u32 + random.one_of(&[1, 1, 2, 4096]);
-            head.accepted = TOP;
-        }
-        "pieces above accepted" if head.pieces > 0 => {
-            head.accepted = random.one_of(&[0, head.pieces - 1]);
         }
         "balance one more" => {
             let balance = &mut head.balances[random.below(vessels) as usize];
@@ -81,7 +76,7 @@ fn foul_rule(random: &mut Random, clause: &str, head: &mut Head) -> bool {
     let vessels = head.vessels as usize;
     let (rules, known) = match clause {
         "rule" => (std::slice::from_mut(&mut head.rule), 3),
-        "rule of a vessel" => (&mut head.rules[..vessels], 3),
+        "rule of a vessel" => (&mut head.rules[..vessels], STIRRED),
         _ => (&mut head.rules[vessels..], 0),
     };
     let Some(last) = rules.len().checked_sub(1) else {

@@ -10,6 +10,7 @@ mod make;
 mod pair;
 mod random;
 mod sheets;
+mod stirs;
 mod tally;
 
 pub use ages::Ages;
@@ -23,6 +24,7 @@ pub use make::{
 pub use pair::{tipped, Pair};
 pub use random::Random;
 pub use sheets::{aged_day, damage, heaviest, names, sheet, working_day};
+pub use stirs::{shares, stirred, Share, Stirs};
 pub use tally::Tally;
 
 use calls::Engine;

@@ -1,7 +1,7 @@
 //! Calls to compare on.
 
 use crate::Random;
-use calls::{Head, Lift, Piece, Tip, Transfer, SCALE, TOP};
+use calls::{Head, Lift, Piece, Tip, Transfer, SCALE, STIRRED, TOP};
 use second::WeighBook;
 
 /// A call on an open book.
@@ -119,12 +119,13 @@ pub fn transfer_for(random: &mut Random, head: &Head, table: &[u32]) -> Transfer
     let in_turn = held[..some]
         .iter()
         .fold(0, |sum: u32, &w| sum.saturating_add(w));
-    let weight = match random.below(8) {
+    let weight = match random.below(9) {
         0 => near(random, &[balance(source), TOP - balance(destination)]),
         1 => balance(source),
         2 => TOP - balance(destination),
         3 | 4 => in_turn,
         5 => in_turn.saturating_add(1),
+        6 => random.from_to(0, balance(source)),
         _ => random.below(20),
     };
     let minute = minute(random, head.last);
@@ -201,9 +202,9 @@ fn weighed_tip(random: &mut Random, book: &WeighBook) -> Tip {
     }
 }
 
-/// The same list with settings of rules between its calls: often of the vessel that gives next, now and
-/// then of one that the book does not have, or to a rule that is none.
-pub fn with_settings(random: &mut Random, vessels: u32, list: &[Call]) -> Vec<Call> {
+/// The same list with settings of rules between its calls, up to a last rule, which is set most often: of
+/// the vessel that gives next, now and then of one that the book does not have, or to a rule that is none.
+pub fn with_settings(random: &mut Random, vessels: u32, last: u32, list: &[Call]) -> Vec<Call> {
     let seldom = random.one_of(&[1, 2, 6]);
     let mut with = Vec::new();
     for call in list {
@@ -215,9 +216,9 @@ pub fn with_settings(random: &mut Random, vessels: u32, list: &[Call]) -> Vec<Ca
             };
             let unknown = random.once_in(20);
             let rule = if unknown {
-                near(random, &[4])
+                near(random, &[STIRRED + 2]).max(STIRRED + 1)
             } else {
-                random.below(4)
+                random.below(last + 2).min(last)
             };
             with.push(Call::SetRule(set, rule));
         }

@@ -4,10 +4,11 @@ mod reports;
 mod rules;
 mod scale;
 mod sheets;
+mod stirs;
 
 pub use scale::tipped;
 
-use crate::{held_by, Ages, Tally};
+use crate::{held_by, Ages, Stirs, Tally};
 use calls::{places, Engine, Head, Opened, Refusal, Transfer, Transferred, SCALE};
 use rules::with_other_rules;
 use second::Second;
@@ -75,6 +76,8 @@ pub struct Pair {
     pub ages: Ages,
     /// What the ages of its lifts came to.
     pub lift_ages: Ages,
+    /// What its transfers and lifts from stirred vessels came to.
+    pub stirs: Stirs,
 }
 
 /// A transfer or a lift by an engine on head and table.
@@ -89,6 +92,7 @@ impl Pair {
             beside: Tally::default(),
             ages: Ages::default(),
             lift_ages: Ages::default(),
+            stirs: Stirs::default(),
         }
     }
 
@@ -162,6 +166,7 @@ impl Pair {
         }
         if ![1, 4].contains(&answer.number) {
             self.by_the_source((head, &before), table, t, &answer, call);
+            self.by_the_words((head, &before), table, t, &answer);
         }
         let young = beside_young((head, &before), table, t, &answer, call);
         let ages = match name {
@@ -172,6 +177,7 @@ impl Pair {
         self.tally.add(name, answer.number);
         answer
     }
+
     /// Whatever the rules of the book and of the other vessels are, a transfer or lift answers the same
     /// and leaves the same, these rules as they were.
     fn by_the_source(

@@ -9,7 +9,7 @@ use std::ops::RangeInclusive;
 pub struct Moved {
     /// How many pieces moved whole.
     pub whole: u32,
-    /// How many pieces were split: 0 or 1.
+    /// How many pieces were split: 0 or 1, but for a stirred source.
     pub split: u32,
     /// The weight that the source lacked, born there.
     pub born: u32,
@@ -26,7 +26,7 @@ fn moved(head: &mut Head, answer: Transferred) -> Result<Moved, Refusal> {
     })
 }
 
-/// Opens a book for 1 to 64 vessels, each of which gets this rule.
+/// Opens a book for 1 to 64 vessels, each of which gets this rule, 0 to 3.
 ///
 /// # Errors
 /// [`Refusal::RuleUnknown`], [`Refusal::VesselCount`].
@@ -37,8 +37,9 @@ pub fn open(rule: u32, vessels: u32) -> Result<Head, Refusal> {
 }
 
 /// Sets the rule of a vessel, by which all later transfers and lifts pick from it: 0 earliest received
-/// first, 1 latest received first, 2 smallest birth minute, 3 largest. It may be set at any moment, also
-/// while the scale is loaded. Nothing else of the head changes, and `rule` stays as the book was opened.
+/// first, 1 latest received first, 2 smallest birth minute, 3 largest, 4 ([`STIRRED`](crate::STIRRED)) all
+/// of them by their shares. It may be set at any moment, also while the scale is loaded. Nothing else of
+/// the head changes, and `rule` stays as the book was opened.
 ///
 /// # Errors
 /// The refusals 1, 4, 5 and 2, the first that applies in this order.
@@ -52,6 +53,10 @@ pub fn set_rule(head: &mut Head, table: &[u32], vessel: u32, rule: u32) -> Resul
 /// Transfers weight from one vessel to another, picked by the rule of the source. What that lacks is
 /// born there; it was milled `age` minutes before, so that its birth minute is `minute - age`. What is
 /// on the scale stays there. A refused transfer leaves head and table as they are.
+///
+/// A stirred source that holds more than the weight gives from everything in it: each piece, in order of
+/// receipt, its share to within less than a gram, where what was rounded off is handed on to the next ones,
+/// so that the shares sum to the weight. What gives a part is split and stays in its place.
 ///
 /// # Errors
 /// The refusals 1, 4, 5 to 8, 21 and 9 to 11, the first that applies in this order.

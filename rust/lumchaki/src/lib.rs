@@ -5,7 +5,9 @@
 //! caller, and a table, lent to each call: four numbers for a piece. Nothing is allocated.
 //!
 //! ```
-//! use lumchaki::{held, lift, open, set_rule, tip, transfer, Lift, Piece, Refusal, Tip, Transfer};
+//! use lumchaki::{
+//!     held, lift, open, set_rule, tip, transfer, Lift, Piece, Refusal, Tip, Transfer, STIRRED,
+//! };
 //!
 //! // Two suppliers deliver to a silo; each vessel gives its oldest flour first (rule 2). The farm's
 //! // comes last and was milled first: it is 60 minutes old.
@@ -40,7 +42,14 @@
 //! set_rule(&mut head, &table, MIXER, 1)?;
 //! transfer(&mut head, &mut table, Transfer::new([MIXER, SILO, 520, 150]))?;
 //! assert_eq!(held(&head, &table, MIXER, &mut report)?, [350, 300, 0, 0]);
-//! assert_eq!(set_rule(&mut head, &table, MIXER, 4), Err(Refusal::RuleUnknown));
+//! assert_eq!(set_rule(&mut head, &table, MIXER, 5), Err(Refusal::RuleUnknown));
+//!
+//! // A liquid leaven that is stirred gives from everything in it: of pieces of 300, 300 and 50 grams, in
+//! // the order in which they were received, 200 grams are 92, 92 and 16.
+//! set_rule(&mut head, &table, MIXER, STIRRED)?;
+//! let moved = transfer(&mut head, &mut table, Transfer::new([MIXER, SILO, 530, 200]))?;
+//! assert_eq!((moved.whole, moved.split, moved.born), (0, 3, 0));
+//! assert_eq!(held(&head, &table, MIXER, &mut report)?, [242, 208, 0, 0]);
 //!
 //! // A refusal changes nothing and has its number and word in document 01 or 02.
 //! let back = transfer(&mut head, &mut table, Transfer::new([SILO, MIXER, 499, 1]));
@@ -59,7 +68,7 @@ mod sheet;
 pub use book::{held, lift, open, set_rule, spread, tip, transfer, whole, whole_by_rows, Moved};
 pub use calls::{
     places, Head, Lift, Piece, Refusal, Tip, Transfer, MOVEMENTS, MOVEMENT_BYTES, NAME_BYTES,
-    PLACES, SCALE, SHEET_HEADER, VESSELS,
+    PLACES, SCALE, SHEET_HEADER, STIRRED, VESSELS,
 };
 pub use sheet::{movement, name, read, run, write, Run, Stop, Summary};
 

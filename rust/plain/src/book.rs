@@ -1,6 +1,6 @@
 //! Opening, the rules of the vessels, and whether a book adds up.
 
-use calls::{places, Head, Refusal, SCALE, VESSELS};
+use calls::{places, Head, Refusal, SCALE, STIRRED, VESSELS};
 
 pub fn open(rule: u32, vessels: u32) -> Result<Head, Refusal> {
     if rule > 3 {
@@ -24,7 +24,7 @@ pub fn set_rule(mut head: Head, table: &[u32], vessel: u32, rule: u32) -> Result
     if vessel >= head.vessels {
         return Err(Refusal::NoVessel);
     }
-    if rule > 3 {
+    if rule > STIRRED {
         return Err(Refusal::RuleUnknown);
     }
     head.rules[vessel as usize] = rule;
@@ -48,10 +48,10 @@ fn adds_up(head: &Head, table: &[u32]) -> bool {
         return false;
     }
     let (known, beyond) = head.rules.split_at(head.vessels as usize);
-    if known.iter().any(|&rule| rule > 3) || beyond.iter().any(|&rule| rule != 0) {
+    if known.iter().any(|&rule| rule > STIRRED) || beyond.iter().any(|&rule| rule != 0) {
         return false;
     }
-    if head.pieces as usize > places(table) || head.pieces > head.accepted {
+    if head.pieces as usize > places(table) {
         return false;
     }
     // The scale's sum lies behind those of the vessels.

@@ -6,6 +6,7 @@
 mod book;
 mod report;
 mod sheet;
+mod stir;
 mod tip;
 mod transfer;
 

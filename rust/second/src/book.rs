@@ -4,7 +4,7 @@ mod rules;
 mod scale;
 
 use crate::buffer::{Buffer, Given, Lot};
-use calls::{Head, Lift, Piece, Refusal, Transfer, SCALE, TOP, VESSELS};
+use calls::{Head, Lift, Piece, Refusal, Transfer, SCALE, STIRRED, TOP, VESSELS};
 
 /// A book that keeps its pieces itself.
 #[derive(Clone)]
@@ -33,8 +33,8 @@ pub struct Moved {
     pub born: u32,
 }
 
-/// Takes from a vessel, lot by lot as its rule picks, and bears what it lacks. The receiver gets each
-/// lot with the next receipt.
+/// Takes from a vessel, all at once if it is stirred, else lot by lot as its rule picks, and bears what it
+/// lacks. The receiver gets each lot with the next receipt.
 fn draw(from: &mut Buffer, want: &Lift, receipts: &mut u64, mut receive: impl FnMut(Lot)) -> Moved {
     let mut moved = Moved::default();
     let mut residue = want.weight;
@@ -43,8 +43,9 @@ fn draw(from: &mut Buffer, want: &Lift, receipts: &mut u64, mut receive: impl Fn
         receive(Lot { receipt, ..lot });
         *receipts += 1;
     };
+    let mut stirred = from.stir(residue).into_iter();
     while residue > 0 {
-        let lot = match from.give(residue) {
+        let lot = match stirred.next().or_else(|| from.give(residue)) {
             Some(Given::Whole(lot)) => {
                 moved.whole += 1;
                 lot
@@ -98,9 +99,7 @@ impl Book {
         book.take_rules(&head.rules)?;
         book.last = head.last;
         book.accepted = head.accepted;
-        let counted = pieces.len() == head.pieces as usize
-            && pieces.len() <= places
-            && head.pieces <= head.accepted;
+        let counted = pieces.len() == head.pieces as usize && pieces.len() <= places;
         let sound = |p: &Piece| {
             (p.holder < head.vessels || p.holder == SCALE)
                 && p.origin < head.vessels
@@ -164,12 +163,14 @@ impl Book {
         None
     }
 
-    /// Whether taking weight from a vessel splits or bears and no place is free. Only a full table
-    /// needs to know beforehand how it will come out.
+    /// Whether the lots that come from taking weight from a vessel, by splits and birth, exceed the free
+    /// places. What is not stirred needs one at most, so that only a full table asks how it will come out.
     fn no_place(&self, source: usize, weight: u32) -> bool {
-        self.pieces == self.places
+        let free = self.places - self.pieces;
+        let buffer = &self.buffers[source];
+        (free == 0 || buffer.rule() == STIRRED)
             && self.balances[source] != weight.into()
-            && !self.buffers[source].reaches(weight)
+            && buffer.more(weight) > free
     }
 
     /// Transfers weight: Algorithm 2 of the source, with the pick of the giving vessel's rule.

@@ -1,5 +1,6 @@
 //! What one vessel holds, kept ready for its rule, and turned over when that changes.
 
+use crate::stirred::Stirred;
 use std::cmp::Reverse;
 use std::collections::binary_heap::PeekMut;
 use std::collections::{BinaryHeap, VecDeque};
@@ -31,10 +32,12 @@ pub enum Buffer {
     FirstBorn(BinaryHeap<Reverse<Lot>>),
     /// Rule 3: the largest birth is at the root.
     LastBorn(BinaryHeap<Lot>),
+    /// Rule 4: all of them give.
+    Stirred(Stirred),
 }
 
 /// Takes what is wanted from a lot; none if the lot is to go whole.
-fn part_of(lot: &mut Lot, want: u32) -> Option<Given> {
+pub(crate) fn part_of(lot: &mut Lot, want: u32) -> Option<Given> {
     if lot.weight <= want {
         return None;
     }
@@ -51,7 +54,8 @@ impl Buffer {
             0 => Buffer::FirstReceived(VecDeque::new()),
             1 => Buffer::LastReceived(Vec::new()),
             2 => Buffer::FirstBorn(BinaryHeap::new()),
-            _ => Buffer::LastBorn(BinaryHeap::new()),
+            3 => Buffer::LastBorn(BinaryHeap::new()),
+            _ => Buffer::Stirred(Stirred::default()),
         }
     }
 
@@ -62,6 +66,7 @@ impl Buffer {
             Buffer::LastReceived(_) => 1,
             Buffer::FirstBorn(_) => 2,
             Buffer::LastBorn(_) => 3,
+            Buffer::Stirred(_) => 4,
         }
     }
 
@@ -83,10 +88,20 @@ impl Buffer {
             Buffer::LastReceived(lots) => lots.push(lot),
             Buffer::FirstBorn(lots) => lots.push(Reverse(lot)),
             Buffer::LastBorn(lots) => lots.push(lot),
+            Buffer::Stirred(stirred) => stirred.receive(lot),
         }
     }
 
-    /// Gives the lot that the rule picks, or the wanted part of it. None if there is none.
+    /// Gives a weight below what there is, all of it at once, if it is stirred; else nothing.
+    pub fn stir(&mut self, want: u32) -> Vec<Given> {
+        match self {
+            Buffer::Stirred(stirred) if stirred.exceeds(want) => stirred.stir(want),
+            _ => Vec::new(),
+        }
+    }
+
+    /// Gives the lot that the rule picks, or the wanted part of it. None if there is none. What is stirred
+    /// gives so where it is emptied.
     pub fn give(&mut self, want: u32) -> Option<Given> {
         match self {
             Buffer::FirstReceived(lots) => {
@@ -109,20 +124,26 @@ impl Buffer {
                 }
                 part_of(&mut root, want)
             }
+            Buffer::Stirred(stirred) => stirred.empty().map(Given::Whole),
         }
     }
 
-    /// Whether picking lots whole reaches a weight exactly.
-    pub fn reaches(&self, weight: u32) -> bool {
+    /// How many lots there are more when a weight was taken, with what was born.
+    pub fn more(&self, weight: u32) -> usize {
         let mut rest = self.clone();
+        let parts = |given: &&Given| matches!(given, Given::Part(_));
+        let stirred = rest.stir(weight);
+        if !stirred.is_empty() {
+            return stirred.iter().filter(parts).count();
+        }
         let mut want = weight;
         while want > 0 {
             match rest.give(want) {
                 Some(Given::Whole(lot)) => want -= lot.weight,
-                Some(Given::Part(_)) | None => return false,
+                Some(Given::Part(_)) | None => return 1,
             }
         }
-        true
+        0
     }
 
     /// The lots in no particular order.
@@ -132,6 +153,7 @@ impl Buffer {
             Buffer::LastReceived(lots) => Box::new(lots.iter()),
             Buffer::FirstBorn(lots) => Box::new(lots.iter().map(|lot| &lot.0)),
             Buffer::LastBorn(lots) => Box::new(lots.iter()),
+            Buffer::Stirred(stirred) => Box::new(stirred.lots()),
         }
     }
 }

@@ -1,7 +1,7 @@
 //! Setting a vessel's rule, and what a pick asks of the rules.
 
 use super::Pair;
-use calls::{places, Engine, Head, RuleSet};
+use calls::{places, Engine, Head, RuleSet, STIRRED};
 use second::Second;
 
 /// The head with the book's rule and those of all vessels but one changed to other known ones.
@@ -11,7 +11,7 @@ pub(super) fn with_other_rules(head: &Head, but: u32) -> Head {
     let vessels = (0..head.vessels).filter(|&v| v != but);
     for vessel in vessels {
         let rule = &mut others.rules[vessel as usize];
-        *rule = (*rule + 1) % 4;
+        *rule = (*rule + 1) % (STIRRED + 1);
     }
     others
 }
@@ -28,7 +28,7 @@ impl Pair {
         assert_eq!(table, before, "set rule leaves the table");
         let mut next = head;
         if ![1, 4].contains(&answer.number) {
-            let due = [(5, vessel >= head.vessels), (2, rule > 3)];
+            let due = [(5, vessel >= head.vessels), (2, rule > STIRRED)];
             let first = due.into_iter().find(|&(_, applies)| applies);
             assert_eq!(answer.number, first.map_or(0, |(number, _)| number));
         }

@@ -56,7 +56,7 @@ pub fn tied(head: &Head, table: &[u32], vessel: u32) -> bool {
     let held = held_by(head, table, vessel);
     let mut births: Vec<u32> = held.iter().map(|p| p.birth).collect();
     births.sort_unstable();
-    let by_birth = head.rules.get(vessel as usize) >= Some(&2);
+    let by_birth = matches!(head.rules.get(vessel as usize), Some(2 | 3));
     by_birth && births.windows(2).any(|w| w[0] == w[1])
 }
 
@@ -112,11 +112,14 @@ fn calls_on_books_that_add_up() {
                 reports(&mut pair, &mut random, head, &table);
             }
         }
-        let (ages, beside) = (&pair.ages, &pair.beside);
+        let (ages, stirs, beside) = (&pair.ages, &pair.stirs, &pair.beside);
         pair.tally.print(&format!(
-            "books that add up, {} {covered:?} {ages:?} beside a load {beside:?}",
+            "books that add up, {} {covered:?} {ages:?} {stirs:?} beside a load {beside:?}",
             pair.label()
         ));
+        stirs.expect(20);
+        assert!(stirs.parts > 400 && stirs.beside > 100);
+        assert!(stirs.empty > 400 && stirs.outnumbered > 1_000);
         covered.expect(500);
         ages.expect(&[0, 5, 6, 7, 8, 9, 10, 11], 50);
         // A book that adds up is never off, except on a table too short to hold one.
@@ -150,12 +153,12 @@ fn calls_on_long_tables() {
                 reports(&mut pair, &mut random, head, &table);
             }
         }
-        let beside = &pair.beside;
+        let (stirs, beside) = (&pair.stirs, &pair.beside);
         pair.tally.print(&format!(
-            "long tables, {} ({full} full ones) beside a load {beside:?}",
+            "long tables, {} ({full} full ones) {stirs:?} beside a load {beside:?}",
             pair.label()
         ));
-        assert!(full > 50);
+        assert!(full > 50 && stirs.parts > 20 && stirs.several > 10);
         for tally in [&pair.tally, beside] {
             assert!(tally.count("transfer", 0) > 100);
             assert!(tally.count("transfer", 11) > 20);
@@ -172,7 +175,7 @@ fn heads_that_do_not_add_up() {
         let mut covered = [0; FOUL_CLAUSES.len()];
         let mut lengths = lengths();
         lengths.retain(|&length| length >= 4);
-        for round in 0..60 {
+        for round in 0..80 {
             for &length in lengths.iter().chain(&LONG[round % LONG.len()..][..1]) {
                 for (clause, count) in FOUL_CLAUSES.into_iter().zip(&mut covered) {
                     let of = if round % 8 < 4 { book } else { loaded_book };
@@ -182,7 +185,7 @@ fn heads_that_do_not_add_up() {
                     }
                     *count += 1;
                     let transfer = transfer_for(&mut random, &head, &table);
-                    let [vessel, rule] = [0, 4].map(|mark| near(&mut random, &[mark]));
+                    let [vessel, rule] = [0, 5].map(|mark| near(&mut random, &[mark]));
                     let numbers = [
                         pair.set_rule(head, &table, vessel, rule).number,
                         pair.transfer(head, &mut table, transfer).number,
@@ -219,7 +222,7 @@ fn more_pieces_than_places_on_a_long_table() {
             head.balances = [0; 64];
             head.scale = 0;
             head.pieces = 4097;
-            head.accepted = 4097;
+            head.accepted = rule;
             head.last = 9;
             for piece in table.chunks_exact_mut(4).take(4097) {
                 piece.copy_from_slice(&[0, 1, 5, 1]);
@@ -256,7 +259,7 @@ fn any_head_and_any_table() {
             let vessels = head.balances.iter_mut().zip(&mut head.rules);
             for (balance, rule) in vessels.take(4) {
                 *balance = near(&mut random, &[0, 0, 2]);
-                *rule = near(&mut random, &[0, 0, 1, 3]);
+                *rule = near(&mut random, &[0, 0, 1, 4]);
             }
             head.scale = near(&mut random, &[0, 0, 0, 2]);
             if length > 0 && random.once_in(4) {
@@ -270,7 +273,7 @@ fn any_head_and_any_table() {
             let tip = tip_for(&mut random, &head);
             pair.tip(head, &mut table, tip);
             let vessel = near(&mut random, &[0, head.vessels]);
-            pair.set_rule(head, &table, vessel, near(&mut random, &[3]));
+            pair.set_rule(head, &table, vessel, near(&mut random, &[4]));
             reports(&mut pair, &mut random, head, &table);
         }
         pair.tally.print(&format!("any head, {}", pair.label()));

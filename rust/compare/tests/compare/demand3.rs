@@ -1,13 +1,15 @@
 //! The laws of demand 3, checked while lists of transfers, lifts, tips and reports run on one fresh book:
-//! under all four rules, and with settings of the vessels' rules between the calls.
+//! under all four rules, and with settings of the vessels' rules between the calls, also to rule 4. The
+//! sums are owed for all lists, the count of pieces and the forecast where nothing is picked by rule 4.
 
 mod covered;
 mod followed;
 mod forecast;
 
-use calls::Engine;
+use calls::{Engine, STIRRED};
 use compare::{call_list, room, subjects, with_settings, Call, Pair, Random};
 use covered::Covered;
+pub use followed::check_sums;
 use followed::{follow, Ended, Followed};
 use forecast::check_forecast;
 
@@ -39,11 +41,14 @@ fn laws_of(subject: &'static dyn Engine, rounds: u32) {
             followed(with, (rule, vessels, length), list)
         };
         let mut all: Vec<Ended> = (0..4).map(|rule| ended(rule, &mut random, &list)).collect();
-        // Two lists more that differ from it, and from each other, in their settings alone.
+        // Two lists more that differ from it, and from each other, in their settings alone, and two with
+        // stirred vessels.
         let rule = random.below(4);
-        let settings = [(); 2].map(|()| with_settings(&mut random, vessels, &list));
+        let last = [3, 3, STIRRED, STIRRED];
+        let settings = last.map(|last| with_settings(&mut random, vessels, last, &list));
         all.extend(settings.map(|with| ended(rule, &mut random, &with)));
         covered.apart += u32::from(all[4].pieces != all[5].pieces);
+        covered.stirred_apart += u32::from(all[4].pieces != all[6].pieces);
         check_forecast(vessels, length, &list, &all, &mut covered);
         covered.lists += 1;
     }
@@ -88,7 +93,7 @@ fn settings_first() {
             pair.label(),
             covered.by_set_rule
         ));
-        assert!(covered.by_set_rule.iter().all(|&count| count > 500));
+        assert!(covered.by_set_rule[..4].iter().all(|&count| count > 500));
         assert!(pair.tally.count("set rule", 0) > 5_000);
         for call in ["transfer", "lift", "tip", "whole"] {
             assert!(pair.tally.count(call, 0) > 1_000, "{call}");

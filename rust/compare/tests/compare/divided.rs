@@ -12,9 +12,9 @@ use std::collections::BTreeMap;
 #[derive(Debug, Default)]
 struct Covered {
     /// Accepted ones by the rule of their source: even, with a split, with a birth.
-    even: [u32; 4],
-    splits: [u32; 4],
-    births: [u32; 4],
+    even: [u32; 5],
+    splits: [u32; 5],
+    births: [u32; 5],
     /// Refused as the lift was, by its number.
     by_lift: BTreeMap<u32, u32>,
     /// Refused as the tip was, by its number.
@@ -159,11 +159,13 @@ fn transfers_of(subject: &'static dyn Engine) {
             transfers_on(book, &mut pair, &mut random, &mut covered);
         }
     }
-    let [bare, loaded] = &covered;
+    let ([bare, loaded], stirs) = (&covered, &pair.stirs);
     pair.tally.print(&format!(
-        "divided, {} {bare:?} beside a load {loaded:?}",
+        "divided, {} {bare:?} beside a load {loaded:?} {stirs:?}",
         pair.label()
     ));
+    stirs.expect(50);
+    assert!(stirs.beside > 200);
     bare.expect(&[1, 5, 7, 8, 10, 11, 21], 50);
     loaded.expect(&[5, 7, 8, 10, 11, 21], 50);
 }

@@ -2,7 +2,7 @@
 
 use calls::{
     Refusal, MOVEMENTS, MOVEMENT_BYTES, MOVEMENT_NUMBERS, NAME_BYTES, PLACES, SCALE, SHEET_HEADER,
-    VESSELS,
+    STIRRED, VESSELS,
 };
 
 const HEADER: &str = include_str!("../../../../include/lumchaki.h");
@@ -40,8 +40,13 @@ fn every_refusal_has_its_number_and_word() {
 }
 
 #[test]
-fn every_limit_has_its_number() {
+fn every_limit_and_rule_has_its_number() {
     let limits = [
+        ("FIRST_RECEIVED", 0),
+        ("LAST_RECEIVED", 1),
+        ("FIRST_BORN", 2),
+        ("LAST_BORN", 3),
+        ("STIRRED", STIRRED as usize),
         ("VESSELS", VESSELS),
         ("SCALE", SCALE as usize),
         ("PLACES", PLACES),

@@ -48,18 +48,19 @@ impl Due {
 }
 
 /// A book of 4 pieces in 3 vessels, with 2 places to spare. A loaded one has a fifth piece among
-/// them, of 9 grams on the scale. Vessel 0 has this rule, and the others and the book have other ones.
+/// them, of 9 grams on the scale. Vessel 0 has this rule, and the others and the book have other ones. It
+/// counts fewer accepted transfers than pieces, as one with a stirred vessel may.
 pub fn small_book(rule: u32, loaded: bool) -> (Head, Vec<u32>) {
     let mut pieces = vec![[0, 1, 2, 5], [1, 2, 3, 6], [0, 2, 3, 7], [2, 0, 1, 8]];
     let mut head = Head {
         rule: (rule + 1) % 4,
         vessels: 3,
         last: 4,
-        accepted: 6,
+        accepted: 2,
         ..Head::ZERO
     };
     head.balances[..3].copy_from_slice(&[12, 6, 8]);
-    head.rules[..3].copy_from_slice(&[rule, (rule + 2) % 4, (rule + 3) % 4]);
+    head.rules[..3].copy_from_slice(&[rule, (rule + 2) % 5, (rule + 3) % 5]);
     if loaded {
         pieces.insert(2, [SCALE, 1, 3, 9]);
         head.scale = 9;
@@ -80,7 +81,7 @@ pub fn damage_book(set: &[u32], form: usize, head: &mut Head, table: &mut Vec<u3
             (4, 0) => head.balances[2] += 1,
             (4, 1) => head.scale += 1,
             (4, 2) => head.scale = if head.scale == 0 { 9 } else { 0 },
-            (4, 3) => head.rules[0] = 4,
+            (4, 3) => head.rules[0] = 5,
             (4, 4) => head.rules[2] = TOP,
             (4, _) => head.rules[3] = 1,
             _ => {}
@@ -88,7 +89,8 @@ pub fn damage_book(set: &[u32], form: usize, head: &mut Head, table: &mut Vec<u3
     }
 }
 
-/// 6 grams of vessel 0 split a piece under every rule, 12 are all of it, and of 13 one is born.
+/// 6 grams of vessel 0 split a piece under every rule, and both if it is stirred, 12 are all of it, and of
+/// 13 one is born.
 pub const SPLIT: u32 = 6;
 pub const ALL: u32 = 12;
 pub const BIRTH: u32 = 13;
@@ -99,11 +101,11 @@ pub const AGES: [fn(bool, u32) -> u16; 2] = [
     |fault, minute| if fault { u16::MAX } else { minute as u16 },
 ];
 
-/// The forms of a transfer or a lift: 4 rules, 3 weights, 2 kinds of ages.
-pub const FORMS: usize = 4 * 3 * AGES.len();
+/// The forms of a transfer or a lift: 5 rules, 3 weights, 2 kinds of ages.
+pub const FORMS: usize = 5 * 3 * AGES.len();
 
 pub fn rule_and_weight(form: usize) -> (u32, u32) {
-    (form as u32 % 4, [SPLIT, ALL, BIRTH][form / 4 % 3])
+    (form as u32 % 5, [SPLIT, ALL, BIRTH][form / 5 % 3])
 }
 
 /// Transfers and reports have the same faults beside either scale.
@@ -133,7 +135,7 @@ fn transfer_with(set: &[u32], form: usize, loaded: bool) -> (Head, Vec<u32>, Tra
     if set.contains(&5) && set.contains(&6) {
         t.destination = t.source;
     }
-    t.age = AGES[form / 12](set.contains(&21), t.minute);
+    t.age = AGES[form / 15](set.contains(&21), t.minute);
     damage_book(set, form, &mut head, &mut table);
     (head, table, t)
 }

@@ -4,8 +4,8 @@
 
 use crate::books::{lengths, reports, LONG};
 use crate::second_scale::picked;
-use calls::{places, Engine, Head, Piece, Refusal, Transfer, Transferred, SCALE, TOP};
-use compare::{book, loaded_book, near, subjects, tip_for, Pair, Random};
+use calls::{places, Engine, Head, Piece, Refusal, Transfer, Transferred, SCALE, STIRRED, TOP};
+use compare::{book, loaded_book, near, shares, subjects, tip_for, Pair, Random, Share};
 use second::{Book, Second};
 
 /// So many pieces are looked at before they are picked.
@@ -16,15 +16,15 @@ const LOOKED_AT: usize = 3;
 struct Covered {
     /// They would have left something else by the rule that the source had before it was set, by that of
     /// the book, by that of the destination.
-    by_former: [u32; 4],
-    by_book: [u32; 4],
-    by_destination: [u32; 4],
+    by_former: [u32; 5],
+    by_book: [u32; 5],
+    by_destination: [u32; 5],
     /// The first of these on full tables, beside a load, and on full tables beside a load.
     full: u32,
     beside: u32,
     full_beside: u32,
     /// They took from a lot of which a part had gone before, by that part's rule and this one.
-    parts: [[u32; 4]; 4],
+    parts: [[u32; 5]; 5],
     /// Settings that were accepted: on full tables, beside a load, on full tables beside a load.
     settings: [u32; 3],
 }
@@ -69,10 +69,10 @@ impl Giving<'_> {
     /// Sets a rule: mostly the giving vessel's, to any.
     fn set(&mut self) {
         let mut vessel = self.vessel;
-        let mut rule = self.random.below(4);
+        let mut rule = self.random.below(5);
         if self.random.once_in(8) {
             vessel = near(self.random, &[0, self.head.vessels]);
-            rule = near(self.random, &[3]);
+            rule = near(self.random, &[4]);
         }
         let answer = self.pair.set_rule(self.head, &self.table, vessel, rule);
         assert_eq!(number_of(self.book.set_rule(vessel, rule)), answer.number);
@@ -147,20 +147,40 @@ impl Giving<'_> {
         }
     }
 
-    /// Notes where the lot lies of which a part went, and whether one went of it before.
-    fn part(&mut self, picks: &[usize], answer: &Transferred) {
-        let (whole, rule) = (answer.whole as usize, self.rule());
+    /// Where the pieces lay that went whole, and those that were split. None if more went than were looked
+    /// at.
+    fn gave(
+        &self,
+        picks: &[usize],
+        (head, table): (Head, &[u32]),
+        weight: u32,
+        answer: &Transferred,
+    ) -> Option<[Vec<usize>; 2]> {
+        if self.rule() != STIRRED || head.balances[self.vessel as usize] <= weight {
+            let (whole, split) = picks.split_at_checked(answer.whole as usize)?;
+            let split = &split[..split.len().min(answer.split as usize)];
+            return Some([whole.to_vec(), split.to_vec()]);
+        }
+        let pieces: Vec<Piece> = Piece::all(&head, table).collect();
+        let shares = shares(&pieces, self.vessel, weight);
+        let which =
+            [Share::whole, Share::split].map(|which| shares.iter().filter(move |s| which(s)));
+        Some(which.map(|shares| shares.map(|share| share.place).collect()))
+    }
+
+    /// Notes where a lot lies of which a part went, and whether one went of it before.
+    fn part(&mut self, gave: Option<[Vec<usize>; 2]>) {
+        let rule = self.rule();
         let parted = self.parted.take();
-        let Some(gone) = picks.get(..whole) else {
+        let Some([whole, split]) = gave else {
             return;
         };
-        let taken = &picks[..picks.len().min(whole + answer.split as usize)];
-        if let Some((_, part)) = parted.filter(|(at, _)| taken.contains(at)) {
+        let taken = |at: &usize| whole.contains(at) || split.contains(at);
+        if let Some((_, part)) = parted.filter(|(at, _)| taken(at)) {
             self.covered.parts[part as usize][rule as usize] += 1;
         }
-        if answer.split > 0 && whole < picks.len() {
-            let at = picks[whole];
-            let before = gone.iter().filter(|&&gone| gone < at).count();
+        if let Some(&at) = split.last() {
+            let before = whole.iter().filter(|&&gone| gone < at).count();
             self.parted = Some((at - before, rule));
         }
     }
@@ -192,7 +212,7 @@ impl Giving<'_> {
         self.head = answer.head;
         if answer.number == 0 {
             self.note(former, (head, &before), t, state);
-            self.part(&picks, &answer);
+            self.part(self.gave(&picks, (head, &before), weight, &answer));
         }
     }
 
@@ -235,7 +255,7 @@ fn changes_of(subject: &'static dyn Engine) {
     let mut pair = Pair::new(subject);
     let mut random = Random::new(106);
     let mut covered = Covered::default();
-    for round in 0..160 {
+    for round in 0..240 {
         let of = if round % 8 < 4 { book } else { loaded_book };
         let long = (round % 3 == 0).then_some(LONG[round as usize % LONG.len()]);
         for length in lengths().into_iter().chain(long) {
@@ -258,12 +278,12 @@ fn changes_of(subject: &'static dyn Engine) {
             giving.go(6);
         }
     }
-    let beside = &pair.beside;
+    let (label, stirs, beside) = (pair.label(), &pair.stirs, &pair.beside);
     pair.tally.print(&format!(
-        "rules that change, {} {covered:?} beside a load {beside:?}",
-        pair.label()
+        "rules that change, {label} {covered:?} {stirs:?} beside a load {beside:?}"
     ));
     covered.expect();
+    stirs.expect(15);
     pair.tally.expect("set rule", &[0, 2, 5], 100);
     for tally in [&pair.tally, beside] {
         assert!(tally.count("set rule", 0) > 3_000 && tally.count("transfer", 0) > 1_000);

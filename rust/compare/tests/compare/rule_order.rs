@@ -1,11 +1,11 @@
 //! Setting a vessel's rule: the order of its checks, every vessel and rule, and heads whose rules are none.
 
 use crate::order::{damage_book, first, sets, small_book, Due, STRANGERS};
-use calls::{Head, Lift, Refusal, Tip, Transfer, TOP, VESSELS};
+use calls::{Head, Lift, Refusal, Tip, Transfer, STIRRED, TOP, VESSELS};
 use compare::{mixed_rules, subjects, Pair, Random};
 
 /// Rules that are none.
-const UNKNOWN: [u32; 8] = [4, 5, 255, 256, 65_536, 65_539, 1 << 31, TOP];
+const UNKNOWN: [u32; 8] = [5, 6, 255, 256, 65_536, 65_540, 1 << 31, TOP];
 
 /// Every set of faults that a setting can have at once, beside a bare scale and a loaded one.
 #[test]
@@ -28,7 +28,7 @@ fn settings_in_order() {
                 let rule = if has(2) {
                     UNKNOWN[form % 8]
                 } else {
-                    form as u32 / 4 % 4
+                    form as u32 / 4 % 5
                 };
                 let answer = pair.set_rule(head, &table, vessel, rule);
                 assert_eq!(answer.number, first(&set), "{set:?}");
@@ -66,10 +66,10 @@ fn every_vessel_and_rule() {
             let mut head = empty_book(&mut random, vessels);
             let table = [TOP; 4];
             for vessel in 0..=VESSELS as u32 {
-                for rule in (0..4).chain([4, TOP]) {
+                for rule in (0..5).chain([5, TOP]) {
                     // One after the other on one book: only the last one of a vessel stays.
                     let answer = pair.set_rule(head, &table, vessel, rule);
-                    let number = match (vessel < vessels, rule < 4) {
+                    let number = match (vessel < vessels, rule < 5) {
                         (true, true) => 0,
                         (true, false) => 2,
                         (false, _) => 5,
@@ -78,7 +78,7 @@ fn every_vessel_and_rule() {
                     head = answer.head;
                 }
             }
-            assert!(head.rules[..vessels as usize].iter().all(|&rule| rule == 3));
+            assert!(head.rules[..vessels as usize].iter().all(|&rule| rule == 4));
         }
         pair.tally.print(&format!("settings, {}", pair.label()));
         pair.tally.expect("set rule", &[0, 2, 5], 4_000);
@@ -115,12 +115,12 @@ fn heads_with_any_rule() {
         let mut covered = [[0; 2]; 2];
         for vessels in [2, 3, 17, 63, 64] {
             for place in 0..VESSELS {
-                for rule in (0..4).chain(UNKNOWN) {
+                for rule in (0..5).chain(UNKNOWN) {
                     let mut head = empty_book(&mut random, vessels);
                     head.accepted /= 2;
                     head.rules[place] = rule;
                     let below = place < vessels as usize;
-                    let adds_up = rule == 0 || below && rule < 4;
+                    let adds_up = rule == 0 || below && rule < 5;
                     let expected = match adds_up {
                         true => [0, 0, 0, 0, bare, 0, 0],
                         false => [off; 7],
@@ -144,7 +144,8 @@ fn heads_with_any_rule() {
     }
 }
 
-/// The book's own rule stays whatever is set; one that is none makes no book, though it picks nothing.
+/// The book's own rule stays whatever is set; one that is none makes no book, though it picks nothing. That
+/// of a stirred vessel is none for a book.
 #[test]
 fn rule_of_the_book() {
     for subject in subjects() {
@@ -154,10 +155,10 @@ fn rule_of_the_book() {
             let mut head = pair.open(opened, 3).head;
             assert_eq!(head.rules[..4], [opened, opened, opened, 0]);
             for vessel in 0..3 {
-                head = pair.set_rule(head, &[0; 4], vessel, random.below(4)).head;
+                head = pair.set_rule(head, &[0; 4], vessel, random.below(5)).head;
             }
             assert_eq!(head.rule, opened);
-            for rule in UNKNOWN {
+            for rule in [STIRRED].into_iter().chain(UNKNOWN) {
                 let head = Head { rule, ..head };
                 assert_eq!(numbers(&mut pair, head), [4; 7], "{rule}");
             }

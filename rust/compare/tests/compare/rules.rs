@@ -124,7 +124,7 @@ fn nothing_but_the_rule() {
             let mut desk = Desk::after(engine, opened, &[[0, 1, 9, 4], [1, 2, 9, 1]]);
             desk.head.accepted = u32::MAX;
             assert_eq!(desk.head.rules[..4], [opened, opened, opened, 0]);
-            for rule in [3, 0, 2, 1] {
+            for rule in [3, 0, 4, 2, 1] {
                 let mut expected = desk.head;
                 expected.rules[1] = rule;
                 assert_eq!(
@@ -136,10 +136,10 @@ fn nothing_but_the_rule() {
                 assert_eq!((desk.head.rule, desk.head.last), (opened, 9));
             }
             let head = desk.head;
-            assert_eq!(desk.set_rule(3, 4), Refusal::NoVessel.number());
-            assert_eq!(desk.set_rule(2, 4), Refusal::RuleUnknown.number());
+            assert_eq!(desk.set_rule(3, 5), Refusal::NoVessel.number());
+            assert_eq!(desk.set_rule(2, 5), Refusal::RuleUnknown.number());
             assert_eq!(desk.head, head);
-            let short = engine.set_rule(head, &desk.table[..3], 3, 4);
+            let short = engine.set_rule(head, &desk.table[..3], 3, 5);
             assert_eq!((short.number, short.head), (1, head));
         }
     }

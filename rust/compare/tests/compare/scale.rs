@@ -88,26 +88,31 @@ impl Desk {
 /// Fails unless the calls of each vector, on a book of so many vessels, are accepted and leave its pieces,
 /// and the head counts them.
 pub fn check(vessels: u32, vectors: &[ScaleVector]) {
+    for (calls, left) in vectors {
+        check_list(vessels, calls, *left);
+    }
+}
+
+/// The same of one list of calls, and what it leaves under each rule that the book is opened by.
+pub fn check_list(vessels: u32, calls: &[Call], left: [&[[u32; 4]]; 4]) {
     for engine in engines() {
-        for (calls, left) in vectors {
-            for (rule, pieces) in (0..).zip(left) {
-                let mut desk = Desk::open(engine, rule, vessels);
-                for call in *calls {
-                    assert_eq!(desk.call(call), 0);
-                }
-                assert_eq!(desk.pieces(), *pieces, "{} rule {rule}", engine.label());
-                // A tip or a setting does not count, and what is on the scale is no vessel's.
-                let counts = |call: &&Call| matches!(call, Call::Move(_) | Call::Lift(_));
-                let counted = calls.iter().filter(counts).count();
-                assert_eq!(desk.head.accepted as usize, counted);
-                let sum = |holder| {
-                    let held = pieces.iter().filter(|p| p[0] == holder);
-                    held.map(|p| p[3]).sum::<u32>()
-                };
-                assert_eq!(desk.head.scale, sum(SCALE));
-                let balances = &desk.head.balances[..vessels as usize];
-                assert!(balances.iter().copied().eq((0..vessels).map(sum)));
+        for (rule, pieces) in (0..).zip(left) {
+            let mut desk = Desk::open(engine, rule, vessels);
+            for call in calls {
+                assert_eq!(desk.call(call), 0);
             }
+            assert_eq!(desk.pieces(), pieces, "{} rule {rule}", engine.label());
+            // A tip or a setting does not count, and what is on the scale is no vessel's.
+            let counts = |call: &&Call| matches!(call, Call::Move(_) | Call::Lift(_));
+            let counted = calls.iter().filter(counts).count();
+            assert_eq!(desk.head.accepted as usize, counted);
+            let sum = |holder| {
+                let held = pieces.iter().filter(|p| p[0] == holder);
+                held.map(|p| p[3]).sum::<u32>()
+            };
+            assert_eq!(desk.head.scale, sum(SCALE));
+            let balances = &desk.head.balances[..vessels as usize];
+            assert!(balances.iter().copied().eq((0..vessels).map(sum)));
         }
     }
 }

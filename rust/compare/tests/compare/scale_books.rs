@@ -117,11 +117,14 @@ fn lifts_and_tips_of(subject: &'static dyn Engine) {
         }
     }
     let Weighing { moves, tips, .. } = weighing;
-    let (ages, beside) = (&pair.lift_ages, &pair.beside);
+    let (ages, stirs, beside) = (&pair.lift_ages, &pair.stirs, &pair.beside);
     pair.tally.print(&format!(
-        "lifts and tips, {} {moves:?} {tips:?} {ages:?} beside a load {beside:?}",
+        "lifts and tips, {} {moves:?} {tips:?} {ages:?} {stirs:?} beside a load {beside:?}",
         pair.label()
     ));
+    stirs.expect(30);
+    assert!(stirs.parts > 400 && stirs.lifts > 1_000 && stirs.beside > 20);
+    assert!(stirs.empty > 200 && stirs.outnumbered > 1_000);
     moves.expect(500);
     tips.expect(200);
     ages.expect_of_lifts(&[0, 5, 7, 8, 10, 11, 22], 30);

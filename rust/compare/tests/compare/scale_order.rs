@@ -21,7 +21,7 @@ fn lift_with(set: &[u32], form: usize) -> (Head, Vec<u32>, Lift) {
             _ => {}
         }
     }
-    l.age = AGES[form / 12](set.contains(&21), l.minute);
+    l.age = AGES[form / 15](set.contains(&21), l.minute);
     damage_book(set, form, &mut head, &mut table);
     (head, table, l)
 }

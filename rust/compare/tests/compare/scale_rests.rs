@@ -17,7 +17,7 @@ struct Covered {
     /// Lifts that had to wait.
     waiting: u32,
     /// Tips into a vessel that holds something and received some meanwhile, by the vessel's rule.
-    behind: [u32; 4],
+    behind: [u32; 5],
     /// Of those, into the vessel where the load came from.
     back: u32,
 }
@@ -138,11 +138,12 @@ fn rests_of(subject: &'static dyn Engine) {
             rest(book, &mut pair, &mut random, &mut covered);
         }
     }
-    let beside = &pair.beside;
+    let (stirs, beside) = (&pair.stirs, &pair.beside);
     pair.tally.print(&format!(
-        "rests, {} {covered:?} beside a load {beside:?}",
+        "rests, {} {covered:?} {stirs:?} beside a load {beside:?}",
         pair.label()
     ));
+    assert!(stirs.parts > 70 && stirs.beside > 35 && stirs.several > 20);
     assert!(covered.loads > 1_000 && covered.several > 500 && covered.waiting > 1_000);
     assert!(covered.transfers.iter().all(|&count| count > 500));
     assert!(covered.behind.iter().all(|&count| count > 50) && covered.back > 50);

@@ -2,8 +2,8 @@
 //! a list, and what happens to them follows the words of the documents, pick by pick. So do the calls of
 //! a list.
 
-use calls::{places, Head, Lift, Piece, Refusal, Transfer, SCALE, VESSELS};
-use compare::{tipped, Call};
+use calls::{places, Head, Lift, Piece, Refusal, Transfer, SCALE, STIRRED, VESSELS};
+use compare::{stirred, tipped, Call};
 use second::WeighBook;
 
 /// The holder number of a second scale.
@@ -25,12 +25,12 @@ pub struct Left {
     pub counts: [u32; 3],
 }
 
-/// Where the piece lies that a rule picks from a vessel.
+/// Where the piece lies that a rule picks from a vessel. What is stirred and emptied goes by receipt.
 pub fn picked(rule: u32, pieces: &[Piece], vessel: u32) -> Option<usize> {
     let mut held = (0..pieces.len()).filter(|&i| pieces[i].holder == vessel);
     let birth = |&i: &usize| pieces[i].birth;
     match rule {
-        0 => held.next(),
+        0 | STIRRED => held.next(),
         1 => held.next_back(),
         // On a tie these give the first and the last.
         2 => held.min_by_key(birth),
@@ -38,8 +38,20 @@ pub fn picked(rule: u32, pieces: &[Piece], vessel: u32) -> Option<usize> {
     }
 }
 
+/// Takes weight from a vessel that is stirred and holds more, onto the second scale.
+fn stir(pieces: &mut Vec<Piece>, l: Lift) -> [u32; 3] {
+    let (left, counts) = stirred(std::mem::take(pieces), l.to(SECOND_SCALE));
+    *pieces = left;
+    counts
+}
+
 /// Takes weight from a vessel onto the second scale.
 fn lift(rule: u32, pieces: &mut Vec<Piece>, l: Lift) -> [u32; 3] {
+    let held = pieces.iter().filter(|p| p.holder == l.source);
+    let balance: u64 = held.map(|p| u64::from(p.weight)).sum();
+    if rule == STIRRED && balance > l.weight.into() {
+        return stir(pieces, l);
+    }
     let (mut whole, mut split, mut wanted) = (0, 0, l.weight);
     while wanted > 0 {
         let Some(at) = picked(rule, pieces, l.source) else {

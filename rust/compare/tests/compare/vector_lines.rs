@@ -108,6 +108,6 @@ fn lists_of_calls() {
             count += 1;
         }
         assert_eq!(shown.len(), 2 * count);
-        assert!(count > 15);
+        assert!(count > 18);
     }
 }

@@ -61,7 +61,8 @@ fn openings() {
 fn books() {
     let mut random = Random::new(41);
     let mut seen = Seen::default();
-    for round in 0..6_000 {
+    let mut several = 0;
+    for round in 0..10_000 {
         let (mut head, mut table) = any_book(&mut random, round);
         let transfer = transfer_for(&mut random, &head, &table);
         let (given_head, mut bare_table) = (head, table.clone());
@@ -72,6 +73,7 @@ fn books() {
         if let Ok(moved) = result {
             let numbers = (moved.whole, moved.split, moved.born);
             assert_eq!(numbers, (bare.whole, bare.split, bare.born));
+            several += u32::from(moved.split > 1);
         } else {
             assert_eq!(head, given_head);
         }
@@ -111,6 +113,7 @@ fn books() {
         assert!(seen.0.get(&number) > Some(&20), "{number}: {:?}", seen.0);
     }
     assert!(!seen.0.contains_key(&Refusal::ScaleLoaded.number()));
+    assert!(several > 15, "{several}");
 }
 
 #[test]
@@ -120,7 +123,7 @@ fn rules() {
     for round in 0..6_000 {
         let (mut head, table) = any_book(&mut random, round);
         let vessel = near(&mut random, &[0, head.vessels]);
-        let rule = near(&mut random, &[0, 3]);
+        let rule = near(&mut random, &[0, 4]);
         let bare = raw::set_rule(head, &table, vessel, rule);
         let result = lumchaki::set_rule(&mut head, &table, vessel, rule);
         assert_eq!(seen.number(&result), bare.number);

@@ -38,7 +38,13 @@ pub struct Covered {
     pub age_forecasts: u32,
     pub full: u32,
     /// Transfers and lifts that picked something by a rule that is not the book's, by that rule.
-    pub by_set_rule: [u32; 4],
+    pub by_set_rule: [u32; 5],
+    /// Lists in which something was picked by rule 4, of those with a place for each transfer and lift.
+    pub stirred: u32,
+    /// Those that end with more pieces than accepted.
+    pub outnumbered: u32,
+    /// The same list with settings up to rule 3 and up to rule 4 leaves other pieces.
+    pub stirred_apart: u32,
     /// Pairs of lists that differ in their settings alone and leave other pieces.
     pub apart: u32,
 }
@@ -47,10 +53,15 @@ impl Covered {
     /// Prints the counts and fails if they are too low.
     pub fn expect(&self, pair: &Pair) {
         let (ages, lift_ages, beside) = (&pair.ages, &pair.lift_ages, &pair.beside);
+        let stirs = &pair.stirs;
         pair.tally.print(&format!(
-            "demand 3, {} {self:?} {ages:?} lifts {lift_ages:?} beside a load {beside:?}",
+            "demand 3, {} {self:?} {stirs:?} {ages:?} lifts {lift_ages:?} beside a load {beside:?}",
             pair.label()
         ));
+        stirs.expect(30);
+        assert!(stirs.parts > 2_000 && stirs.lifts > 1_500 && stirs.beside > 500);
+        assert!(stirs.empty > 2_000 && stirs.outnumbered > 2_000);
+        assert!(self.stirred > 1_000 && self.outnumbered > 200 && self.stirred_apart > 1_000);
         assert!(self.lists >= 1_000 && self.transfers > 50_000);
         assert!(self.lifts > 20_000 && self.tips > 20_000);
         assert!(self.even > 5_000 && self.births > 5_000 && self.full > 500);

@@ -3,14 +3,14 @@
 
 use super::covered::Covered;
 use crate::second_scale::after;
-use calls::{Head, Lift, Piece, Tip, Transfer, Transferred, SCALE, VESSELS};
+use calls::{Head, Lift, Piece, Refusal, Tip, Transfer, Transferred, SCALE, STIRRED, VESSELS};
 use compare::{room, Call, Pair, Random};
 use second::{Book, Moved, WeighBook};
 use std::collections::{BTreeMap, BTreeSet};
 
 /// The pieces, in every vessel and on the scale, sum to what the weigh book has there; so do the
 /// births.
-fn check_sums(head: &Head, table: &[u32], weighed: &WeighBook) {
+pub fn check_sums(head: &Head, table: &[u32], weighed: &WeighBook) {
     let mut weights = vec![0; head.vessels as usize];
     let mut scale = 0;
     let mut births = BTreeMap::new();
@@ -45,6 +45,10 @@ pub struct Followed<'p> {
     even: u32,
     /// The transfers and lifts answered 0.
     accepted: u32,
+    /// What these split and bore: so many pieces there are, under any rule.
+    made: u32,
+    /// Whether a transfer or lift from a vessel that then had rule 4 was accepted, or refused with 11.
+    stirred: bool,
     /// The number of every transfer, lift and tip.
     numbers: Vec<u32>,
     /// Where the load on the scale came from, and the vessels that received something beside it.
@@ -74,6 +78,8 @@ impl<'p> Followed<'p> {
             weighed: WeighBook::new(vessels),
             even: 0,
             accepted: 0,
+            made: 0,
+            stirred: false,
             numbers: Vec::new(),
             lifted_from: 0,
             receivers: BTreeSet::new(),
@@ -85,11 +91,15 @@ impl<'p> Followed<'p> {
     fn note(&mut self, lift: Lift, answer: &Transferred, follow: impl FnOnce(&mut Self) -> Moved) {
         self.head = answer.head;
         self.numbers.push(answer.number);
+        let rule = self.rules.get(lift.source as usize).copied();
+        let decided = [0, Refusal::TableFull.number()].contains(&answer.number);
+        self.stirred |= decided && rule == Some(STIRRED);
         if answer.number != 0 {
             return;
         }
         self.accepted += 1;
         self.even += u32::from(answer.even());
+        self.made += answer.split + u32::from(answer.born > 0);
         let rule = self.rules[lift.source as usize];
         let picked = answer.whole + answer.split > 0;
         let set = picked && rule != self.head.rule;
@@ -197,7 +207,10 @@ impl<'p> Followed<'p> {
             self.pieces = after(std::mem::take(&mut self.pieces), &self.rules, call);
         }
         assert_eq!(self.head.accepted, self.accepted);
-        assert_eq!(self.head.pieces + self.even, self.accepted);
+        assert_eq!(self.head.pieces, self.made);
+        if !self.stirred {
+            assert_eq!(self.head.pieces + self.even, self.accepted);
+        }
     }
 }
 
@@ -207,6 +220,8 @@ pub struct Ended {
     pub numbers: Vec<u32>,
     pub head: Head,
     pub pieces: Vec<Piece>,
+    /// Whether something was picked by rule 4.
+    pub stirred: bool,
 }
 
 /// Runs a list on a fresh book.
@@ -224,6 +239,7 @@ pub fn follow(mut followed: Followed, random: &mut Random, list: &[Call]) -> End
         rules,
         weighed,
         even,
+        stirred,
         numbers,
         ..
     } = followed;
@@ -233,11 +249,13 @@ pub fn follow(mut followed: Followed, random: &mut Random, list: &[Call]) -> End
     assert!(Piece::all(&head, &table).eq(pieces.iter().copied()));
     check_sums(&head, &table, &weighed);
     covered.even += even;
+    covered.outnumbered += u32::from(head.pieces > head.accepted);
     covered.loaded += u32::from(head.scale > 0);
     covered.full += u32::from(numbers.contains(&11));
     Ended {
         numbers,
         head,
         pieces,
+        stirred,
     }
 }

@@ -21,8 +21,8 @@ fn forecast(vessels: u32, list: &[Call]) -> Vec<(u32, &'static str)> {
 }
 
 /// The forecast, where it is owed: a table of at least 4 numbers has a place for each transfer and
-/// lift. On a smaller one it holds up to the first 11. The list was followed under some rules, with and
-/// without settings between its calls.
+/// lift, and nothing is picked by rule 4. Else it holds up to the first 11. The list was followed under some
+/// rules, with and without settings between its calls.
 pub fn check_forecast(
     vessels: u32,
     length: usize,
@@ -37,10 +37,14 @@ pub fn check_forecast(
     }
     let expected = || forecast.iter().map(|&(number, _)| number);
     let owed = counted <= length / 4;
-    for Ended { numbers, .. } in all {
+    for Ended {
+        numbers, stirred, ..
+    } in all
+    {
         let full = numbers.iter().position(|&number| number == 11);
         let count = full.unwrap_or(forecast.len());
-        assert!(full.is_none() || !owed, "{list:?}");
+        assert!(full.is_none() || !owed || *stirred, "{list:?}");
+        covered.stirred += u32::from(owed && *stirred);
         assert!(
             numbers[..count].iter().copied().eq(expected().take(count)),
             "{list:?}"
