@@ -160,13 +160,14 @@ lumchaki_rule_set lumchaki_set_rule(lumchaki_head head, const uint32_t *table, s
  * until the weight is reached; what the source lacks is born there. What is born was milled `age`
  * minutes before: its birth minute is minute - age. Checks 1, 4, 5 to 8, 21, 9 to 11.
  *
- * A stirred source (rule 4) that holds more than the weight gives from everything in it. In order of
- * receipt, its pieces up to each one give weight * C / T, rounded down, where C is what they weigh and T
- * what the source holds; what the ones before do not give of it, the piece itself does. That is its share
- * to within less than a gram, and all together give the weight. A piece that gives 0 stays as it is, one
- * that gives all moves whole, and any other is split: the rest of it stays in its place. What is given
- * joins the end, whole pieces and parts alike, in order of receipt. 11 comes where there are more splits
- * than free places. A stirred source that holds no more than the weight gives all, in that order. */
+ * A stirred source (rule 4) that holds more than the weight gives from everything in it. Its pieces are
+ * taken in order of receipt. With T what the source holds, and C what its pieces weigh up to one of them
+ * and with it, that piece gives weight * C / T, rounded down, less what the pieces before it gave: its
+ * share to within less than a gram, and all together give the weight. A piece that gives 0 stays as it
+ * is, one that gives all moves whole, and any other is split: the rest of it stays in its place. What is
+ * given joins the end, whole pieces and parts alike, in order of receipt. 11 comes where there are more
+ * splits than free places. A stirred source that holds no more than the weight gives all, in that
+ * order, and the rest is born. */
 lumchaki_transferred lumchaki_transfer(lumchaki_head head, uint32_t *table, size_t table_len,
                                        uint32_t source, uint32_t destination, uint32_t minute,
                                        uint32_t weight, uint16_t age);

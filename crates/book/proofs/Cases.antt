@@ -22,7 +22,7 @@ abbrev pub worked : ℕ → List Transfer → (Journal → List ℕ) → List �
 worked rule given look wanted = called rule (map post given) look wanted
 
 -- the table that is lent: eight places, and no zeros in it
-abbrev lent : List ℕ
+abbrev pub lent : List ℕ
 lent = replicate 32 9
 
 abbrev pub seen : Case → List ℕ

@@ -4,7 +4,7 @@
 -- "With q ≥ T all moves, in order of receipt, and the rest is born."
 -- Assumes nothing.
 use Rattle.std.proofs.Common.{◌≡◌, refl, sym, ap, ◌∙◌, append-nil, List, ◌++◌, map, ℕ, ◌+◌, ◌-◌, ◌*◌, ◌≤◌, ◌<◌, arith, length, get_or}
-use Rattle.sharing.specs.Sharing.{sum}
+use Rattle.sharing.specs.Sharing.{sum_of}
 use Rattle.sharing.proofs.Shares.{Within}
 use Rattle.table.specs.declared.Piece.{Piece}
 use Rattle.table.specs.Pieces.{hand_to, if_any, held, All}
@@ -14,7 +14,7 @@ use Rattle.taking.specs.declared.Move.{Move}
 use Rattle.taking.specs.Stirring.{stirred_rule, weights_in, gifts, stirred, left_of, given_by}
 use Rattle.taking.specs.Taking.{newborn, handed, taken}
 use Rattle.taking.specs.Sweeping.{held_by, elsewhere}
-use Rattle.taking.proofs.Stirring.{taken_stirred, stirred_pieces, stirred_counts, stirred_fair, gifts_near, gifts_sum}
+use Rattle.taking.proofs.Stirring.{taken_stirred, stirred_pieces, counts, gifts_near, gifts_sum}
 use Rattle.taking.proofs.Sweeping.{stirred_out}
 use Rattle.book.specs.declared.Head.{Head}
 use Rattle.book.specs.declared.Transfer.{Transfer}
@@ -32,7 +32,7 @@ use Rattle.book.proofs.InWords.{accepted_book}
 pub record GivesFromAll (m : Move) (ps : List Piece) (t : List ℕ) (o : Outcome) : Type 0 where
   pub table : o.table ≡ lay (left_of (gifts m ps) ps ++ map (hand_to m.destination) (given_by (gifts m ps) ps)) t
   pub near : (i : ℕ) → let T = held m.source ps in Within T (get_or (gifts m ps) i 0 * T) (m.weight * get_or (weights_in m.source ps) i 0)
-  pub gifts_are : sum (gifts m ps) ≡ m.weight
+  pub gifts_are : sum_of (gifts m ps) ≡ m.weight
   -- "the answer's split mark becomes a count of splits": of a piece that is split there is one more
   pub split : o.answer.split + length ps ≡ length (left_of (gifts m ps) ps) + length (given_by (gifts m ps) ps)
   pub whole : o.answer.whole + o.answer.split ≡ length (given_by (gifts m ps) ps)
@@ -56,16 +56,14 @@ module _ (m : Move) (ps : List Piece) (t : List ℕ) (weighty : All (λ p. 1 ≤
       let r = taken_stirred m ps more in
       let said : o.answer ≡ answer_of (stirred m ps) = answer ∙ ap answer_of r in
       let parts = stirred_pieces m ps weighty more in
-      let longer = rw (parts.0, parts.1) at (stirred_fair m ps more).longer in
-      let counted = rw parts.1 at (stirred_counts m ps more).0 in
-      let unborn = (stirred_counts m ps more).1 in
+      let c = rw (parts.0, parts.1) at (counts (gifts m ps) ps) in
       record {
-        table = table ∙ rw (r, parts.0, parts.1, unborn) (simp append-nil);
+        table = table ∙ rw (r, parts.0, parts.1, c.0) (simp append-nil);
         near = gifts_near m ps (omega arith);
         gifts_are = gifts_sum m ps (omega arith);
-        split = rw said (omega (arith, longer));
-        whole = rw said (omega (arith, counted));
-        born = rw said unborn;
+        split = rw said (omega (arith, c.2));
+        whole = rw said (omega (arith, c.1));
+        born = rw said c.0;
       }
 
   gives_all : held m.source ps ≤ m.weight → GivesAll m ps t o

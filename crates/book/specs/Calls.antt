@@ -58,7 +58,7 @@ pub record Meaning : Type 0 where
   pub even : Book → ℕ
 
 -- What takes weight from a vessel, by its rule: a transfer, and a lift, which answers and counts as one.
--- Number 11, "split or birth due, pieces = places": the pieces afterwards would exceed the places (`table_full` shows the two the same).
+-- "Number 11 comes when the pieces afterwards would exceed the places." (By the four first rules that is "split or birth due, pieces = places": `table_full`.)
 -- "Numbers behind the last piece are never written": `lay`.
 abbrev pub taking : (Book → List Check) → Motion → Meaning
 taking checks m =

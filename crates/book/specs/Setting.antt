@@ -9,7 +9,7 @@ use Rattle.book.specs.Head.{Book, known_rule}
 abbrev pub setting_of : ℕ → ℕ → Setting
 setting_of v rule = record { vessel = v; rule = rule }
 
--- "The call checks 1, 4, 5, 2."
+-- "The call checks 1, 4, 5, 2", where "2 now means above 4".
 unfoldable pub setting_checks : ℕ → Setting → List Check
 setting_checks size s = 5 if leb size s.vessel ∷ 2 if not (known_rule s.rule) ∷ []
 

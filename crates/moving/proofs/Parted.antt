@@ -1,7 +1,7 @@
 -- The pieces are parted by what each gives. The first i have been; what `giving` leaves of the others completes what it leaves of all, in the table and among
 -- the lifted. The places from i on are as they were, since no more pieces stay than were seen.
 -- Assumes nothing.
-use Rattle.std.proofs.Common.{◌≡◌, refl, ◌∙◌, ◌≢◌, List, [], ◌∷◌, ◌++◌, append_assoc, append-nil, map, ℕ, suc, ◌+◌, ◌-◌, ◌*◌, ◌≤◌, ◌<◌, add-one, arith, get_or, drop, drop_of_length-le, drop-cons, drop-set-lt}
+use Rattle.std.proofs.Common.{◌≡◌, ◌∙◌, ◌≢◌, List, [], ◌∷◌, ◌++◌, append_assoc, append-nil, map, ℕ, suc, ◌+◌, ◌-◌, ◌*◌, ◌≤◌, ◌<◌, add-one, arith, get_or, drop, drop_of_length-le, drop-cons, drop-set-lt}
 use Rattle.std.proofs.lemmas.Bool.Decides.{nat_tests}
 use Rattle.table.specs.declared.Piece.{Piece}
 use Rattle.table.specs.Pieces.{no_piece, of_weight, hand_to}
@@ -47,7 +47,7 @@ module _ {n d i j k : ℕ} {gs t₀ t l : List ℕ} (asked : Partible n gs t₀)
     now =
         let there = drop-cons (pieces_of n t₀) i no_piece (rw length_pieces h) in
         let gift = drop-cons gs i 0 (omega (arith, asked.gifts)) in
-        rw (there, gift, same) refl
+        rw (there, gift, same)
 
     -- what lies behind place i is as it was, also where a piece is put before
     ahead : drop (suc i) (pieces_of n t) ≡ drop (suc i) (pieces_of n t₀)
@@ -68,17 +68,18 @@ module _ {n d i j k : ℕ} {gs t₀ t l : List ℕ} (asked : Partible n gs t₀)
         let joined = append_assoc (pieces_of j t) (p ∷ []) (from (suc i) gs (pieces_of n t₀)).rest in
         grind (arith, nat_tests, add-one i, now, left t' p et, stayed t' p et, joined, put_behind n j t t' p et, s.behind, s.few, s.most)
 
-    pub part_whole : {l' : List ℕ} → g ≢ 0 → g ≡ p.weight → l' ≡ put_in lifted_places k (hand_to d (of_weight g p)) l → Parting n d (i + 1) j (k + 1) gs t₀ t l'
-    part_whole {l'} m e el =
-        let joined = append_assoc (pieces_of k l) (hand_to d p ∷ []) (map (hand_to d) (from (suc i) gs (pieces_of n t₀)).given) in
-        grind (arith, nat_tests, add-one i, now, ahead, went l' _ el, joined, s.behind, s.few, s.most)
+    -- it gives, and q is what it gives
+    module _ {l' : List ℕ} {q r : Piece} (some : g ≢ 0) (eq : q ≡ of_weight g p) (er : r ≡ hand_to d q) (el : l' ≡ put_in lifted_places k r l) where
+      pub part_whole : g ≡ p.weight → Parting n d (i + 1) j (k + 1) gs t₀ t l'
+      part_whole e =
+          let joined = append_assoc (pieces_of k l) (hand_to d p ∷ []) (map (hand_to d) (from (suc i) gs (pieces_of n t₀)).given) in
+          grind (arith, nat_tests, add-one i, now, ahead, went l' r el, joined, s.behind, s.few, s.most)
 
-    pub part_split : {t' l' : List ℕ} → g ≢ 0 → g ≢ p.weight → t' ≡ put_in n j (of_weight (p.weight - g) p) t
-        → l' ≡ put_in lifted_places k (hand_to d (of_weight g p)) l → Parting n d (i + 1) (j + 1) (k + 1) gs t₀ t' l'
-    part_split {t'} {l'} m e et el =
-        let rest = append_assoc (pieces_of j t) (of_weight (p.weight - g) p ∷ []) (from (suc i) gs (pieces_of n t₀)).rest in
-        let given = append_assoc (pieces_of k l) (hand_to d (of_weight g p) ∷ []) (map (hand_to d) (from (suc i) gs (pieces_of n t₀)).given) in
-        grind (arith, nat_tests, add-one i, now, left t' _ et, stayed t' _ et, went l' _ el, rest, given, put_behind n j t t' _ et, s.behind, s.few, s.most)
+      pub part_split : {t' : List ℕ} {x : Piece} → g ≢ p.weight → x ≡ of_weight (p.weight - g) p → t' ≡ put_in n j x t → Parting n d (i + 1) (j + 1) (k + 1) gs t₀ t' l'
+      part_split {t'} {x} m ex et =
+          let rest = append_assoc (pieces_of j t) (x ∷ []) (from (suc i) gs (pieces_of n t₀)).rest in
+          let given = append_assoc (pieces_of k l) (r ∷ []) (map (hand_to d) (from (suc i) gs (pieces_of n t₀)).given) in
+          grind (arith, nat_tests, add-one i, now, left t' x et, stayed t' x et, went l' r el, rest, given, put_behind n j t t' x et, s.behind, s.few, s.most)
 
   pub part_end : n ≤ i → i ≤ n → Parts n d gs t₀ t l (record { stay = j; go = k })
   unfolding giving

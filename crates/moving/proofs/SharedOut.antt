@@ -9,7 +9,7 @@ use Rattle.table.specs.declared.Piece.{Piece}
 use Rattle.table.specs.Pieces.{held}
 use Rattle.taking.specs.declared.Move.{Move}
 use Rattle.taking.specs.Stirring.{weights_in, gifts, giving, stirred}
-use Rattle.moving.specs.Stirring.{Stirrable, SharedOut}
+use Rattle.moving.specs.Stirring.{Stirrable, SharesOut}
 
 pub record SharingOut (m : Move) (T : ℕ) (all left : List Piece) (i sum given splits : ℕ) (gs : List ℕ) : Type 0 where
   pub noted : take i gs ++ shares m.weight T sum (weights_in m.source left) ≡ gifts m all
@@ -52,6 +52,6 @@ module _ {m : Move} {T : ℕ} {all : List Piece} (asked : Stirrable m T all) whe
         unfolding shares giving
         share_split n h g = grind (arith, nat_tests, common_steps, add-one i)
 
-    pub share_end : left ≡ [] → SharedOut m all gs splits
+    pub share_end : left ≡ [] → SharesOut m all gs splits
     unfolding shares giving
     share_end e = grind (arith, append-nil (take i gs))

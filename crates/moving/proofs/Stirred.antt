@@ -1,5 +1,5 @@
 -- A stirred source whole: the gifts tell how many are split, so whether there is room, and the parted pieces with what they give behind them are what is handed over.
--- Of any gifts: nothing is born, each split is a piece more, and what is given goes whole or is split. No piece gives more than it has.
+-- No piece gives more than it has.
 -- Assumes nothing.
 use Rattle.std.proofs.Common.{◌≡◌, refl, ap, ◌∙◌, ◌≢◌, true, false, Option, None, Some, List, [], ◌∷◌, ◌++◌, append-nil, map, ℕ, zero, suc, ◌+◌, ◌-◌, ◌*◌, ◌≤◌, ◌<◌, arith, length, take, length-append, lt-ltb, le-ltb}
 use Rattle.std.proofs.lemmas.Bool.Decides.{nat_tests}
@@ -14,24 +14,13 @@ use Rattle.taking.specs.declared.Move.{Move}
 use Rattle.taking.specs.Taken.{Taken}
 use Rattle.taking.specs.Selection.{as_received}
 use Rattle.taking.specs.Taking.{handed, singly, taken}
-use Rattle.taking.proofs.Stirring.{taken_singly, taken_stirred, taken_out}
-use Rattle.taking.specs.Stirring.{stirred_rule, weights_in, gifts, giving, stirred}
+use Rattle.taking.proofs.Stirring.{counts, taken_singly, taken_stirred, taken_out}
+use Rattle.taking.specs.Stirring.{stirred_rule, weights_in, gifts, stirred}
 use Rattle.moving.specs.declared.Applied.{Applied}
 use Rattle.moving.specs.declared.stirring.Parted.{Parted}
 use Rattle.moving.specs.Applied.{full, applied, table_left, lifted_places, Ready, Moves}
-use Rattle.moving.specs.Stirring.{Stirrable, SharedOut, Affordable, Partible, Parts}
+use Rattle.moving.specs.Stirring.{Stirrable, SharesOut, Affordable, Partible, Parts}
 
--- any gifts
-abbrev Counts : List Piece → Taken → Type 0
-Counts ps r = (r.born ≡ 0) × (length r.given ≡ r.whole + r.split) × (length r.rest + length r.given ≡ length ps + r.split)
-
-counts : (gs : List ℕ) (ps : List Piece) → Counts ps (giving gs ps)
-unfolding giving
-counts [] ps = (refl, refl, omega arith)
-counts (g ∷ gs) [] = (refl, refl, omega arith)
-counts (g ∷ gs) (p ∷ ps) = grind (arith, nat_tests, counts gs ps)
-
--- shares
 afford : (s q T : ℕ) → 0 < T → q ≤ T → (c : ℕ) (ps : List Piece) → Affordable (shares q T c (weights_in s ps)) ps
 unfolding shares
 afford s q T some few c [] i = omega arith
@@ -52,7 +41,7 @@ module _ {n places T : ℕ} {m : Move} {t : List ℕ} (ready : Ready n places m 
   pub stir_places : length read ≤ most_places
   stir_places = omega (arith, ap length read_is, length_pieces n t, ready.pieces, ready.most)
 
-  module _ {gs : List ℕ} {splits : ℕ} (out : SharedOut m read gs splits) where
+  module _ {gs : List ℕ} {splits : ℕ} (out : SharesOut m read gs splits) where
     given : take n gs ≡ gifts m ps
     given = rw (read_is, length_pieces) at out.noted
 

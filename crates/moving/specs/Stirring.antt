@@ -15,7 +15,7 @@ pub record Stirrable (m : Move) (T : ℕ) (ps : List Piece) : Type 0 where
   pub more : m.weight < T
 
 -- What each piece gives is put down, and how many are split is counted.
-pub record SharedOut (m : Move) (ps : List Piece) (gs : List ℕ) (splits : ℕ) : Type 0 where
+pub record SharesOut (m : Move) (ps : List Piece) (gs : List ℕ) (splits : ℕ) : Type 0 where
   pub noted : take (length ps) gs ≡ gifts m ps
   pub counted : splits ≡ (stirred m ps).split
 

@@ -15,10 +15,10 @@ mod apply; // apply.rt: a plan is applied
 mod singly; // singly.rt: one piece after the other goes
 mod stirring; // stirring.rt: every piece gives
 
-// The memory for keys, and as much to sort them: one for each place.
+// The memory for keys, or for what each piece gives, and as much to sort keys: one for each place.
 pub const KEYS: usize = table::PLACES;
 
-// The memory for lifted pieces has room for every place and one piece more: the part of a split, or what is born.
+// The memory for lifted pieces has room for every place and one piece more: the part of the one split, or what is born.
 const LIFTED_PLACES: usize = table::PLACES + 1;
 
 // Its length, four numbers for a piece.
@@ -40,7 +40,7 @@ pub struct Holding {
     pub balance: u32,
 }
 
-// Memory to work in, for keys and to sort them, and for lifted pieces. What it holds afterwards is not laid down.
+// Memory to work in, for keys or gifts, to sort keys, and for lifted pieces. What it holds afterwards is not laid down.
 #[derive(Drop)]
 pub struct Workspace {
     pub keys: [u64; KEYS],

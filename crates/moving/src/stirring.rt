@@ -3,7 +3,7 @@ ghost use Rattle.std.specs.Prelude.{◌≡◌, ◌≤◌, length};
 ghost use Rattle.table.specs.Table.{most_places, pieces_of};
 ghost use Rattle.taking.specs.Stirring.{stirred};
 ghost use Rattle.moving.specs.Applied.{Ready, Moves};
-ghost use Rattle.moving.specs.Stirring.{Stirrable, SharedOut, Partible, Parts};
+ghost use Rattle.moving.specs.Stirring.{Stirrable, SharesOut, Partible, Parts};
 
 use super::{Applied, LIFTED, LIFTED_PLACES, Workspace};
 use table::reading::Pieces;
@@ -17,11 +17,11 @@ pub struct Parted {
     pub go: usize,
 }
 
-// What each piece gives is put down, 0 for a piece of another holder: what falls to all pieces of the source up to it, less what fell to those before it.
-// The answer is how many pieces are split.
+// What each piece gives is put down, 0 for a piece of another holder: what falls to the source's pieces up to it, less what fell to those before it.
+// So there is one division for each. The answer is how many pieces are split.
 fn share_out(pieces: &Pieces, m: Move, balance: u32, noted: &mut [u64]) -> usize
     requires { (length pieces.now ≤ most_places) × (length noted.old ≡ most_places) × Stirrable m balance pieces.now }
-    ensures { SharedOut m pieces.now noted.new result }
+    ensures { SharesOut m pieces.now noted.new result }
 {
     let mut splits = 0;
     let mut sum = 0;
@@ -64,8 +64,8 @@ fn part(
             stay += 1;
             continue;
         }
-        let part = p.of_weight(gift).hand_to(destination);
-        put_piece(lifted, LIFTED_PLACES, go, part);
+        let given = p.of_weight(gift).hand_to(destination);
+        put_piece(lifted, LIFTED_PLACES, go, given);
         go += 1;
         if gift != p.weight {
             put_piece(table, n, stay, p.of_weight(p.weight - gift));

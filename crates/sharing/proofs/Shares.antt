@@ -4,7 +4,7 @@
 -- Assumes nothing.
 use Rattle.std.proofs.Common.{arith, ◌≡◌, refl, sym, ap, ◌∙◌, List, [], ◌∷◌, ℕ, zero, suc, ◌+◌, ◌*◌, ◌≤◌, ◌<◌, add-zero, zero-add, get_or}
 use Rattle.std.proofs.Math.Nat.{div-mul-le_self, lt-div-mul-add, div-le_of_le-mul, mul-div_cancel, mul-le-mul_left, mul-le-mul_right, mul-zero, mul-add, add-mul, mul_comm, lt_of_mul-lt-mul_right, zero-div}
-use Rattle.sharing.specs.Sharing.{up_to, share, shares, sum}
+use Rattle.sharing.specs.Sharing.{up_to, share, shares, sum_of}
 
 -- Two numbers are apart by less than n: so a / n and b / n are, by less than 1.
 abbrev pub Within : ℕ → ℕ → ℕ → Type 0
@@ -59,15 +59,15 @@ module _ (amount total : ℕ) where
         (omega (arith, below (c + w), above c, both c w, split), omega (arith, below c, above (c + w), both c w, split))
 
     -- and nothing is lost
-    shares_up_to : (c : ℕ) (ws : List ℕ) → up_to amount total c + sum (shares amount total c ws) ≡ up_to amount total (c + sum ws)
+    shares_up_to : (c : ℕ) (ws : List ℕ) → up_to amount total c + sum_of (shares amount total c ws) ≡ up_to amount total (c + sum_of ws)
     unfolding shares
     shares_up_to c [] = simp add-zero
     shares_up_to c (w ∷ ws) =
-        let all : up_to amount total (c + w + sum ws) ≡ up_to amount total (c + sum (w ∷ ws)) = ap (up_to amount total) (omega arith) in
+        let all : up_to amount total (c + w + sum_of ws) ≡ up_to amount total (c + sum_of (w ∷ ws)) = ap (up_to amount total) (omega arith) in
         omega (arith, share_adds c w, shares_up_to (c + w) ws, all)
 
-pub shares_sum : (amount : ℕ) (ws : List ℕ) → 0 < sum ws → sum (shares amount (sum ws) 0 ws) ≡ amount
-shares_sum amount ws some = omega (arith, simp zero-add at (shares_up_to amount (sum ws) some 0 ws), up_to_none amount (sum ws), up_to_all amount (sum ws) some)
+pub shares_sum : (amount : ℕ) (ws : List ℕ) → 0 < sum_of ws → sum_of (shares amount (sum_of ws) 0 ws) ≡ amount
+shares_sum amount ws some = omega (arith, simp zero-add at (shares_up_to amount (sum_of ws) some 0 ws), up_to_none amount (sum_of ws), up_to_all amount (sum_of ws) some)
 
 shares_at : (amount total c i : ℕ) → 0 < total → (ws : List ℕ) → Within total (get_or (shares amount total c ws) i 0 * total) (amount * get_or ws i 0)
 unfolding shares
@@ -75,8 +75,8 @@ shares_at amount total c i some [] = rw mul-zero (omega arith, omega arith)
 shares_at amount total c zero some (w ∷ ws) = share_near amount total some c w
 shares_at amount total c (suc i) some (w ∷ ws) = shares_at amount total (c + w) i some ws
 
-pub shares_near : (amount : ℕ) (ws : List ℕ) → 0 < sum ws → (i : ℕ) → Within (sum ws) (get_or (shares amount (sum ws) 0 ws) i 0 * sum ws) (amount * get_or ws i 0)
-shares_near amount ws some i = shares_at amount (sum ws) 0 i some ws
+pub shares_near : (amount : ℕ) (ws : List ℕ) → 0 < sum_of ws → (i : ℕ) → Within (sum_of ws) (get_or (shares amount (sum_of ws) 0 ws) i 0 * sum_of ws) (amount * get_or ws i 0)
+shares_near amount ws some i = shares_at amount (sum_of ws) 0 i some ws
 
 -- of numbers of 32 bits: so much of the amount falls to a part of the total
 pub up_to_fits : (amount total c : ℕ) → 0 < total → c ≤ total → up_to amount total c ≤ amount

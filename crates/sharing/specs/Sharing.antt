@@ -17,6 +17,6 @@ shares amount total c [] = []
 shares amount total c (w ∷ ws) = share amount total c w ∷ shares amount total (c + w) ws
 
 -- the sum of weights
-abbrev pub sum : List ℕ → ℕ
-sum [] = 0
-sum (w ∷ ws) = w + sum ws
+abbrev pub sum_of : List ℕ → ℕ
+sum_of [] = 0
+sum_of (w ∷ ws) = w + sum_of ws

@@ -5,8 +5,7 @@
 use Rattle.std.proofs.Common.{◌≡◌, refl, sym, ap, ◌∙◌, ◌≢◌, Bool, true, false, cond, List, [], ◌∷◌, ℕ, ◌+◌, ◌-◌, ◌≤◌, ◌<◌, arith, ltb, eqb, length, eqb-true, ne_eqb, ltb-true, lt-ltb, le-ltb, ◌*◌, get_or, add-zero, zero-add}
 use Rattle.std.proofs.lemmas.Bool.Decides.{nat_tests}
 use borrow.Author.Tests.{eqb-false}
-use Rattle.sharing.specs.Sharing.{up_to, share, shares}
-use Rattle.sharing.specs.Sharing.{sum as total_weight}
+use Rattle.sharing.specs.Sharing.{up_to, share, shares, sum_of}
 use Rattle.sharing.proofs.Shares.{Within, up_to_none, up_to_all, share_adds, share_fits, shares_sum, shares_near}
 use Rattle.table.specs.declared.Piece.{Piece}
 use Rattle.table.specs.Pieces.{of_weight, Kind, weigh, sum, in_vessel, held, weight_of, All, done, also}
@@ -20,6 +19,16 @@ use Rattle.taking.specs.Sweeping.{held_by}
 use Rattle.taking.proofs.HeldBy.{passed_over}
 use Rattle.taking.proofs.Taking.{Reweigh, Fair, singly_law}
 
+-- Of any gifts: nothing is born, what is given goes whole or is split, and each split is a piece more.
+abbrev pub Counts : List Piece → Taken → Type 0
+Counts ps r = (r.born ≡ 0) × (length r.given ≡ r.whole + r.split) × (length r.rest + length r.given ≡ length ps + r.split)
+
+pub counts : (gs : List ℕ) (ps : List Piece) → Counts ps (giving gs ps)
+unfolding giving
+counts [] ps = (refl, refl, omega arith)
+counts (g ∷ gs) [] = (refl, refl, omega arith)
+counts (g ∷ gs) (p ∷ ps) = grind (arith, nat_tests, counts gs ps)
+
 -- What gives something is held by s, and its whole weight counts there.
 pub own_gift : (s g : ℕ) (p : Piece) → g ≤ weigh (in_vessel s) p → g ≢ 0 → (p.holder ≡ s) × (g ≤ p.weight)
 own_gift s g p h n = grind (arith, nat_tests)
@@ -29,9 +38,6 @@ module _ (s q T : ℕ) (some : 0 < T) (few : q ≤ T) where
   record Gives (c : ℕ) (ps : List Piece) (r : Taken) : Type 1 where
     parts : (k : Kind) → sum k r.rest + sum k r.given ≡ sum k ps
     adds : up_to q T c + weight_of r.given ≡ up_to q T (c + held s ps)
-    unborn : r.born ≡ 0
-    longer : length r.rest + length r.given ≡ length ps + r.split
-    counted : length r.given ≡ r.whole + r.split
     keeps : (P : Piece → Type 0) → Reweigh P → All P ps → All P r.rest × All (λ p. (p.holder ≡ s) × P p) r.given
     others : (v : ℕ) → v ≢ s → held_by v r.rest ≡ held_by v ps
 
@@ -48,9 +54,6 @@ module _ (s q T : ℕ) (some : 0 < T) (few : q ≤ T) where
     none e = record {
       parts = λ k. omega (arith, i.parts k);
       adds = omega (arith, sums);
-      unborn = i.unborn;
-      longer = omega (arith, i.longer);
-      counted = i.counted;
       keeps = λ P u x. let y = i.keeps P u (all_tail x) in (also (all_head x) y.0, y.1);
       others = λ v ne. rw (i.others v ne) refl;
     }
@@ -61,9 +64,6 @@ module _ (s q T : ℕ) (some : 0 < T) (few : q ≤ T) where
         record {
           parts = λ k. omega (arith, i.parts k);
           adds = omega (arith, sums);
-          unborn = i.unborn;
-          longer = omega (arith, i.longer);
-          counted = omega (arith, i.counted);
           keeps = λ P u x. let y = i.keeps P u (all_tail x) in (y.0, also (own.0, all_head x) y.1);
           others = λ v ne. i.others v ne ∙ sym (passed_over v p ps (λ z. ne (sym z ∙ own.0)));
         }
@@ -74,9 +74,6 @@ module _ (s q T : ℕ) (some : 0 < T) (few : q ≤ T) where
         record {
           parts = λ k. omega (arith, i.parts k, in_two k p (p.weight - g) g (omega (arith, own.1)));
           adds = omega (arith, sums);
-          unborn = i.unborn;
-          longer = omega (arith, i.longer);
-          counted = omega (arith, i.counted);
           keeps = λ P u x.
               let y = i.keeps P u (all_tail x) in
               (also (u p _ (omega (arith, own.1)) (all_head x)) y.0, also (own.0, u p g (omega arith) (all_head x)) y.1);
@@ -99,9 +96,6 @@ module _ (s q T : ℕ) (some : 0 < T) (few : q ≤ T) where
   each_gives c [] = record {
     parts = λ k. omega arith;
     adds = simp add-zero;
-    unborn = refl;
-    longer = omega arith;
-    counted = omega arith;
     keeps = λ P u x. (x, done);
     others = λ v ne. refl;
   }
@@ -111,29 +105,27 @@ module _ (s q T : ℕ) (some : 0 < T) (few : q ≤ T) where
 
 -- A stirred vessel that has more than is wanted.
 module _ (x : Move) (ps : List Piece) (more : x.weight < held x.source ps) where
-  abbrev T : ℕ
-  T = held x.source ps
+  abbrev balance : ℕ
+  balance = held x.source ps
 
-  i : Gives x.source x.weight T (omega arith) (omega arith) 0 ps (stirred x ps)
-  i = each_gives x.source x.weight T (omega arith) (omega arith) 0 ps
+  gave : Gives x.source x.weight balance (omega arith) (omega arith) 0 ps (stirred x ps)
+  gave = each_gives x.source x.weight balance (omega arith) (omega arith) 0 ps
 
   -- the gifts sum to what is wanted
-  pub stirred_sum : weight_of (stirred x ps).given ≡ x.weight
-  stirred_sum = omega (arith, simp zero-add at i.adds, up_to_none x.weight T, up_to_all x.weight T (omega arith))
+  stirred_sum : weight_of (stirred x ps).given ≡ x.weight
+  stirred_sum = omega (arith, simp zero-add at gave.adds, up_to_none x.weight balance, up_to_all x.weight balance (omega arith))
 
-  -- the given pieces are whole ones and parts, and nothing is born
-  pub stirred_counts : (length (stirred x ps).given ≡ (stirred x ps).whole + (stirred x ps).split) × ((stirred x ps).born ≡ 0)
-  stirred_counts = (i.counted, i.unborn)
-
-  pub stirred_fair : Fair x.source x.weight ps (stirred x ps)
-  stirred_fair = record {
-    parts = i.parts;
-    makes_up = omega (arith, stirred_sum, i.unborn);
-    born_is = omega (arith, i.unborn);
-    longer = i.longer;
-    keeps = i.keeps;
-    others = i.others;
-  }
+  stirred_fair : Fair x.source x.weight ps (stirred x ps)
+  stirred_fair =
+      let c = counts (gifts x ps) ps in
+      record {
+        parts = gave.parts;
+        makes_up = omega (arith, stirred_sum, c.0);
+        born_is = omega (arith, c.0);
+        longer = c.2;
+        keeps = gave.keeps;
+        others = gave.others;
+      }
 
 -- What is taken under another rule than 4, and under rule 4 where no more is wanted than the vessel has.
 pub taken_singly : (rule : ℕ) (x : Move) (ps : List Piece) → rule ≢ stirred_rule → taken rule x ps ≡ singly rule x ps
@@ -168,7 +160,7 @@ none_split rule x ps all = rw (le-ltb _ _ all) (go (eqb rule stirred_rule))
     go false = omega (arith, (singly_law rule x ps).left_over)
 
 -- LESS THAN ONE GRAM: what the piece at any place gives differs from its exact part of what is wanted by less than 1, and all gifts sum to that.
-sum_weights : (s : ℕ) (ps : List Piece) → total_weight (weights_in s ps) ≡ held s ps
+sum_weights : (s : ℕ) (ps : List Piece) → sum_of (weights_in s ps) ≡ held s ps
 sum_weights s [] = refl
 sum_weights s (p ∷ ps) = omega (arith, sum_weights s ps)
 
@@ -176,7 +168,7 @@ pub gifts_near : (x : Move) (ps : List Piece) → 0 < held x.source ps → (i : 
     → Within (held x.source ps) (get_or (gifts x ps) i 0 * held x.source ps) (x.weight * get_or (weights_in x.source ps) i 0)
 gifts_near x ps some i = rw (sum_weights x.source ps) at (shares_near x.weight (weights_in x.source ps) (rw sum_weights some) i)
 
-pub gifts_sum : (x : Move) (ps : List Piece) → 0 < held x.source ps → total_weight (gifts x ps) ≡ x.weight
+pub gifts_sum : (x : Move) (ps : List Piece) → 0 < held x.source ps → sum_of (gifts x ps) ≡ x.weight
 gifts_sum x ps some = rw (sum_weights x.source ps) at (shares_sum x.weight (weights_in x.source ps) (rw sum_weights some))
 
 -- IN WORDS: what is left of each piece stays in its order, and what each gives goes in that order, whole pieces and parts alike.

@@ -18,8 +18,8 @@ loop-i-preserved-then-gift-eq0 c = search (rules, part_stays)
 
 pub loop-i-preserved : goal.loop-i-preserved
 loop-i-preserved c = elim c.if-gift-p.branch [
-  | then-gift-p w ↦ rw (w.table-is, w.stay-is) (part_split c.requires c.loop-i.invariant c.loop-i-test.true c.piece_at-p.ensures (search rules) (search rules) (search rules) (search rules))
-  | else-gift-p w ↦ rw (w.table-is, w.stay-is) (part_whole c.requires c.loop-i.invariant c.loop-i-test.true c.piece_at-p.ensures (search rules) (search rules) (search rules))
+  | then-gift-p w ↦ rw (w.table-is, w.stay-is) (search (rules, part_split))
+  | else-gift-p w ↦ rw (w.table-is, w.stay-is) (search (rules, part_whole))
 ]
 
 pub returns : goal.returns
