@@ -51,7 +51,7 @@ enum {
 enum {
     LUMCHAKI_ACCEPTED = 0,
     LUMCHAKI_TABLE_SHORT = 1,   /* "no tray": the table has fewer than 4 numbers */
-    LUMCHAKI_RULE_UNKNOWN = 2,  /* "rule unknown": the rule is above 3, one to be set above 4 */
+    LUMCHAKI_RULE_UNKNOWN = 2,  /* "rule unknown": the rule is above 3; a vessel's own, above 4 */
     LUMCHAKI_VESSEL_COUNT = 3,  /* "vessel count": the count of vessels is not 1 to 64 */
     LUMCHAKI_BOOK_OFF = 4,      /* "book off": head and table are no book that adds up */
     LUMCHAKI_NO_VESSEL = 5,     /* "no vessel": a vessel or origin is not below the count */

@@ -5,7 +5,7 @@ use crate::make::near;
 use crate::Random;
 use calls::{places, Head, SCALE, STIRRED, TOP, VESSELS};
 
-/// The clauses of "adds up", each with a way to break it alone.
+/// The clauses of "adds up", each with a way to break it alone. More pieces than were accepted break none.
 pub const FOUL_CLAUSES: [&str; 23] = [
     "rule",
     "rule of a vessel",
