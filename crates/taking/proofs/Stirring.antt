@@ -184,3 +184,12 @@ module _ (s q T : ℕ) (some : 0 < T) (few : q ≤ T) where
 pub stirred_pieces : (x : Move) (ps : List Piece) → All (λ p. 1 ≤ p.weight) ps → x.weight < held x.source ps
     → ((stirred x ps).rest ≡ left_of (gifts x ps) ps) × ((stirred x ps).given ≡ given_by (gifts x ps) ps)
 stirred_pieces x ps h more = left_given x.source x.weight (held x.source ps) (omega arith) (omega arith) 0 ps h
+
+-- On four pieces, of which one gives a part, one all, one nothing and one a part again: what they give lies in the order of receipt.
+abbrev lot : ℕ → ℕ → Piece
+lot origin weight = record { holder = 0; origin = origin; birth = 7; weight = weight }
+
+pub four_pieces : giving (2 ∷ 1 ∷ 0 ∷ 2 ∷ []) (lot 1 5 ∷ lot 2 1 ∷ lot 3 1 ∷ lot 4 3 ∷ [])
+    ≡ record { rest = lot 1 3 ∷ lot 3 1 ∷ lot 4 1 ∷ []; given = lot 1 2 ∷ lot 2 1 ∷ lot 4 2 ∷ []; whole = 1; split = 2; born = 0 }
+unfolding giving
+four_pieces = refl
