@@ -1,0 +1,5 @@
+pub mod Notes
+pub mod Order
+pub mod Chains
+pub mod Seeking
+pub mod Joining

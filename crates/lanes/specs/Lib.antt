@@ -1,0 +1,4 @@
+pub mod Order
+pub mod Notes
+pub mod Chains
+pub mod Store
