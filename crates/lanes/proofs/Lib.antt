@@ -3,3 +3,4 @@ pub mod Order
 pub mod Chains
 pub mod Seeking
 pub mod Joining
+pub mod Listing

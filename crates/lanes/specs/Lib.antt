@@ -2,3 +2,4 @@ pub mod Order
 pub mod Notes
 pub mod Chains
 pub mod Store
+pub mod Closing

@@ -1,6 +1,6 @@
 -- What memory holds: pieces by slot, the lanes of their holders, and the log of receipts.
 -- Definitions only. Assumes nothing.
-use Rattle.std.specs.Prelude.{◌≡◌, ◌≢◌, List, [], ◌∷◌, ◌++◌, ℕ, ◌+◌, ◌≤◌, ◌<◌, ltb, length, get_or, set, take}
+use Rattle.std.specs.Prelude.{◌≡◌, ◌≢◌, List, ℕ, ◌+◌, ◌≤◌, ◌<◌, ltb, length, set, take}
 use Rattle.table.specs.declared.Piece.{Piece}
 use Rattle.table.specs.Table.{most_places}
 use Rattle.lanes.specs.declared.Store.{Store}
@@ -76,4 +76,26 @@ pub record Left (v x : ℕ) (s s' : Store) : Type 0 where
   pub pieces : s'.pieces ≡ s.pieces
   pub log : s'.log ≡ s.log
   pub noted : s'.noted ≡ s.noted
+  pub count : s'.count ≡ s.count
+
+-- Slot x is received: it has the last note.
+pub record Noted (x : ℕ) (s s' : Store) : Type 0 where
+  pub log : s'.log ≡ set s.log s.noted x
+  pub noted : s'.noted ≡ s.noted + 1
+  pub links : s'.next ≡ s.next
+  pub pieces : s'.pieces ≡ s.pieces
+  pub count : s'.count ≡ s.count
+
+-- The log can be closed, and is.
+pub record Closable (s : Store) : Type 0 where
+  pub few : s.count ≤ most_places
+  pub room : s.noted ≤ most_notes
+  pub noted : (i : ℕ) → has i (received s) ≡ ltb i s.count
+  pub all : length (received s) ≡ s.count
+
+pub record Closed (s s' : Store) : Type 0 where
+  pub log : take s'.noted s'.log ≡ received s
+  pub noted : s'.noted ≡ s.count
+  pub links : s'.next ≡ s.next
+  pub pieces : s'.pieces ≡ s.pieces
   pub count : s'.count ≡ s.count

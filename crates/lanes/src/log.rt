@@ -1,0 +1,58 @@
+// The log of receipts: a slot's last note is its place in the order of receipt.
+ghost use Rattle.std.specs.Prelude.{◌≡◌, ◌<◌, ◌≤◌, length, take};
+ghost use Rattle.table.specs.Table.{most_places};
+ghost use Rattle.lanes.specs.Store.{most_notes, Noted, Closable, Closed};
+ghost use Rattle.lanes.specs.Closing.{Listable, Lists};
+
+use super::Store;
+use table::PLACES;
+
+// Of the first so many notes of a log the last ones are listed: from the newest on, each slot that was not seen before is put in front of those found.
+#[tactic(auto, using(crate::proofs::Listing::listing_end, crate::proofs::Listing::slot_of, crate::proofs::Listing::some_free, crate::proofs::Listing::free_fits))]
+fn list_last(log: &[u16], noted: usize, count: usize, last: &mut [u16])
+    requires { Listable log.now noted count last.old }
+    ensures { Lists (take noted log.now) count last.new }
+{
+    let mut seen = [false; PLACES];
+    let mut free = count;
+    for k in 0..noted {
+        let x = log[noted - 1 - k] as usize;
+        if seen[x] {
+            continue;
+        }
+        seen[x] = true;
+        free -= 1;
+        last[free] = x as u16;
+    }
+}
+
+// The first so many notes of a log become others.
+fn put_first(log: &mut [u16], notes: &[u16], count: usize)
+    requires { (count ≤ length log.old) × (count ≤ length notes.now) }
+    ensures { take count log.new ≡ take count notes.now }
+{
+    log[..count].copy_from_slice(&notes[..count]);
+}
+
+impl Store {
+    // Slot x is received.
+    fn receive(&mut self, x: usize)
+        requires { (self.old.noted < most_notes) × (x < most_places) }
+        ensures { Noted x self.old self.new }
+    {
+        self.log[self.noted] = x as u16;
+        self.noted += 1;
+    }
+
+    // The log is closed: it keeps the last note of each slot.
+    #[tactic(auto, using(crate::proofs::Listing::closable))]
+    fn close(&mut self)
+        requires { Closable self.old }
+        ensures { Closed self.old self.new }
+    {
+        let (count, noted) = (self.count, self.noted);
+        list_last(&self.log, noted, count, &mut self.spare);
+        put_first(&mut self.log, &self.spare, count);
+        self.noted = count;
+    }
+}
