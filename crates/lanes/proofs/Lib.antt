@@ -1,5 +1,6 @@
 pub mod Notes
 pub mod Order
+pub mod Hops
 pub mod Chains
 pub mod Seeking
 pub mod Joining

@@ -1,3 +1,4 @@
+pub mod Lanes
 pub mod Order
 pub mod Notes
 pub mod Chains

@@ -4,13 +4,10 @@ use Rattle.std.specs.Prelude.{◌≡◌, ◌≢◌, List, ℕ, ◌+◌, ◌≤�
 use Rattle.table.specs.declared.Piece.{Piece}
 use Rattle.table.specs.Table.{most_places}
 use Rattle.lanes.specs.declared.Store.{Store}
+use Rattle.lanes.specs.Lanes.{most_lanes}
 use Rattle.lanes.specs.Notes.{has, latest}
 use Rattle.lanes.specs.Order.{at_slot, pieces_at, ahead, lane}
 use Rattle.lanes.specs.Chains.{start, behind, Chain, foot, put_behind}
-
--- as many holders have a lane
-abbrev pub most_lanes : ℕ
-most_lanes = 64
 
 -- as many notes fit in the log
 abbrev pub most_notes : ℕ
@@ -21,8 +18,8 @@ abbrev pub received : Store → List ℕ
 received s = latest (take s.noted s.log)
 
 -- the pieces, in order of receipt
-abbrev pub contents : Store → List Piece
-contents s = pieces_at s.pieces (received s)
+abbrev pub pieces_in : Store → List Piece
+pieces_in s = pieces_at s.pieces (received s)
 
 -- the slots of holder v, in picking order
 abbrev pub lane_of : ℕ → Store → ℕ → List ℕ
