@@ -5,3 +5,6 @@ pub mod Chains
 pub mod Seeking
 pub mod Joining
 pub mod Listing
+pub mod Receiving
+pub mod HandingOver
+pub mod Adding

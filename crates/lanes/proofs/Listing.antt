@@ -10,7 +10,8 @@ use Rattle.table.specs.Table.{most_places}
 use Rattle.lanes.specs.Notes.{has, latest}
 use Rattle.lanes.specs.Closing.{Listable, Lists}
 use Rattle.lanes.specs.declared.Store.{Store}
-use Rattle.lanes.specs.Store.{most_notes, Closable}
+use Rattle.lanes.specs.Store.{most_notes}
+use Rattle.lanes.specs.Steps.{Closable}
 use Rattle.lanes.proofs.Notes.{has_latest, length_latest_drop}
 
 -- the last k of the notes

@@ -3,4 +3,5 @@ pub mod Order
 pub mod Notes
 pub mod Chains
 pub mod Store
+pub mod Steps
 pub mod Closing

@@ -1,7 +1,8 @@
 // The log of receipts: a slot's last note is its place in the order of receipt.
 ghost use Rattle.std.specs.Prelude.{◌≡◌, ◌<◌, ◌≤◌, length, take};
 ghost use Rattle.table.specs.Table.{most_places};
-ghost use Rattle.lanes.specs.Store.{most_notes, Noted, Closable, Closed};
+ghost use Rattle.lanes.specs.Store.{most_notes};
+ghost use Rattle.lanes.specs.Steps.{Noted, Closable, Closed};
 ghost use Rattle.lanes.specs.Closing.{Listable, Lists};
 
 use super::Store;
@@ -36,7 +37,7 @@ fn put_first(log: &mut [u16], notes: &[u16], count: usize)
 
 impl Store {
     // Slot x is received.
-    fn receive(&mut self, x: usize)
+    pub fn receive(&mut self, x: usize)
         requires { (self.old.noted < most_notes) × (x < most_places) }
         ensures { Noted x self.old self.new }
     {
@@ -46,7 +47,7 @@ impl Store {
 
     // The log is closed: it keeps the last note of each slot.
     #[tactic(auto, using(crate::proofs::Listing::closable))]
-    fn close(&mut self)
+    pub fn close(&mut self)
         requires { Closable self.old }
         ensures { Closed self.old self.new }
     {
