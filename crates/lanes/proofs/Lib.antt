@@ -2,7 +2,7 @@ pub mod Notes
 pub mod Order
 pub mod Hops
 pub mod Chains
-pub mod Seeking
+pub mod Along
 pub mod Joining
 pub mod Listing
 pub mod Receiving

@@ -11,6 +11,13 @@ use Rattle.lanes.specs.Order.{at_slot, ahead}
 use Rattle.lanes.specs.Chains.{start, behind, Chain, foot, put_behind}
 use Rattle.lanes.specs.Store.{most_notes, received, lane_of, Kept}
 
+-- From place f on lies a chain, of no more slots than there are.
+pub record Leads (f : ℕ) (s : Store) : Type 0 where
+  pub place : f < most_places + most_lanes
+  pub line : List ℕ
+  pub chain : Chain s.next f line
+  pub short : length line ≤ most_places
+
 -- Slot x can join the lane of holder d: it is in use elsewhere, or not yet.
 pub record Joining (rule d x : ℕ) (s : Store) : Type 0 where
   pub few : s.count ≤ most_places
@@ -36,14 +43,6 @@ pub record Joined (rule d x : ℕ) (s s' : Store) : Type 0 where
   pub log : s'.log ≡ s.log
   pub noted : s'.noted ≡ s.noted
   pub count : s'.count ≡ s.count
-
--- From a place on it can be sought which slots go before x.
-pub record Seekable (x f : ℕ) (s : Store) : Type 0 where
-  pub slot : x < most_places
-  pub place : f < most_places + most_lanes
-  pub line : List ℕ
-  pub chain : Chain s.next f line
-  pub short : length line ≤ most_places
 
 -- Slot x, the first of its lane, has left the lane of holder v.
 pub record Left (v x : ℕ) (s s' : Store) : Type 0 where
