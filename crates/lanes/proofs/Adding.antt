@@ -1,15 +1,15 @@
 -- A new slot holds a piece: it joins the lane of the piece's holder, and is received last.
 -- Assumes nothing.
-use Rattle.std.proofs.Common.{◌≡◌, refl, sym, ap, ◌∙◌, ◌≢◌, Bool, true, false, ◌||◌, List, [], ◌∷◌, ◌++◌, ℕ, ◌+◌, ◌≤◌, ◌<◌, arith, ltb, eqb, length, length-append, set, take}
+use Rattle.std.proofs.Common.{◌≡◌, refl, ap, ◌∙◌, false, ◌||◌, List, [], ◌∷◌, ◌++◌, ℕ, ◌+◌, ◌<◌, arith, ltb, length, length-append, set, take}
 use Rattle.std.proofs.lemmas.Bool.Decides.{nat_tests}
 use Rattle.table.specs.declared.Piece.{Piece}
 use Rattle.table.specs.Table.{most_places}
-use Rattle.lanes.specs.Notes.{has, latest, without, Once}
+use Rattle.lanes.specs.Notes.{has}
 use Rattle.lanes.specs.Order.{at_slot, ahead, lane}
 use Rattle.lanes.specs.Chains.{start, Chain, foot, put_behind}
 use Rattle.lanes.specs.Lanes.{most_lanes}
 use Rattle.lanes.specs.declared.Store.{Store}
-use Rattle.lanes.specs.Store.{most_notes, received, lane_of, Kept}
+use Rattle.lanes.specs.Store.{most_notes, received, lane_of}
 use Rattle.lanes.specs.Steps.{Joining, Joined, Addable, Added}
 use Rattle.lanes.proofs.Notes.{has_append, without_none, once_latest}
 use Rattle.lanes.proofs.Hops.{lane_kept, at_same, at_other}

@@ -1,6 +1,6 @@
 -- A whole piece goes from the front of a lane to its place in another: the slot leaves its lane by one link, joins the other, has another holder, and is received last.
 -- Assumes nothing.
-use Rattle.std.proofs.Common.{◌≡◌, refl, sym, subst, ap, ◌∙◌, ◌≢◌, Bool, true, false, ◌&&◌, cond, List, [], ◌∷◌, ◌++◌, ℕ, ◌+◌, ◌≤◌, ◌<◌, arith, ltb, eqb, length, set, take, length-set, eqb-true, eq-eqb, ⊎_elim}
+use Rattle.std.proofs.Common.{◌≡◌, refl, sym, subst, ap, ◌∙◌, ◌≢◌, Bool, true, false, List, [], ◌∷◌, ◌++◌, ℕ, ◌+◌, ◌<◌, arith, eqb, length, set, take, length-set, eqb-true, eq-eqb, ⊎_elim}
 use Rattle.std.proofs.lemmas.Bool.{cases_eq}
 use Rattle.std.proofs.lemmas.Bool.Decides.{nat_tests}
 use Rattle.std.proofs.lemmas.List.{take_more_set}
@@ -8,15 +8,15 @@ use borrow.Author.Tests.{eqb-false}
 use Rattle.table.specs.declared.Piece.{Piece}
 use Rattle.table.specs.Pieces.{hand_to}
 use Rattle.table.specs.Table.{most_places}
-use Rattle.lanes.specs.Notes.{has, latest, without, Once}
+use Rattle.lanes.specs.Notes.{has, without, Once}
 use Rattle.lanes.specs.Order.{at_slot, ahead, lane}
 use Rattle.lanes.specs.Chains.{start, behind, Chain, foot, put_behind}
 use Rattle.lanes.specs.Lanes.{most_lanes}
 use Rattle.lanes.specs.declared.Store.{Store}
-use Rattle.lanes.specs.Store.{most_notes, received, lane_of, Kept}
-use Rattle.lanes.specs.Steps.{Joining, foot_of, Joined, Left, Noted, Handing, HandedOver}
-use Rattle.lanes.proofs.Notes.{has_append, has_without, latest_noted, once_latest, once_without, Alone, alone}
-use Rattle.lanes.proofs.Order.{First, picks_first, members, not_ours}
+use Rattle.lanes.specs.Store.{most_notes, received, lane_of}
+use Rattle.lanes.specs.Steps.{Joining, Joined, Left, Handing, HandedOver}
+use Rattle.lanes.proofs.Notes.{has_without, latest_noted, once_latest, once_without, alone}
+use Rattle.lanes.proofs.Order.{not_ours}
 use Rattle.lanes.proofs.Hops.{Hop, hop, at_same, at_other}
 use Rattle.lanes.proofs.Chains.{has_first, chain_apart, chain_leave, Begins, begins}
 use Rattle.lanes.proofs.Receiving.{start_in_none, received_last}

@@ -8,3 +8,7 @@ pub mod Listing
 pub mod Receiving
 pub mod HandingOver
 pub mod Adding
+pub mod Walk
+pub mod OneByOne
+pub mod Laid
+pub mod HandingWhole

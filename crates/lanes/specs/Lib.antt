@@ -5,3 +5,5 @@ pub mod Chains
 pub mod Store
 pub mod Steps
 pub mod Closing
+pub mod Walk
+pub mod Moving

@@ -6,6 +6,7 @@ use table::{PLACES, Piece};
 mod links; // links.rt: the lanes, each a chain of slots
 mod log; // log.rt: the order of receipt
 mod steps; // steps.rt: the steps of a move
+mod moves; // moves.rt: a move, step by step
 
 // So many holders have a lane.
 pub const LANES: usize = 64;

@@ -1,0 +1,81 @@
+-- Whole pieces are handed over in a loop. The invariant: memory is in order, what is left of the move from here on does what the move does, and there is a note left for every piece
+-- that may still go.
+-- Assumes nothing.
+use Rattle.std.proofs.Common.{◌≡◌, refl, sym, ap, ◌∙◌, ◌≢◌, List, [], ◌∷◌, ℕ, ◌+◌, ◌-◌, ◌≤◌, ◌<◌, arith, length, eqb, take}
+use Rattle.table.specs.Table.{most_places}
+use Rattle.taking.specs.declared.Move.{Move}
+use Rattle.lanes.specs.Order.{at_slot, ahead}
+use Rattle.lanes.specs.Chains.{start, behind, Chain, ends}
+use Rattle.lanes.specs.declared.Store.{Store}
+use Rattle.lanes.specs.Store.{most_notes, received, lane_of, Kept}
+use Rattle.lanes.specs.Steps.{Handing, HandedOver}
+use Rattle.lanes.specs.Walk.{Goes}
+use Rattle.lanes.specs.Moving.{Going, Gone}
+use Rattle.lanes.proofs.Notes.{once_latest}
+use Rattle.lanes.proofs.Order.{length_in_order}
+use Rattle.lanes.proofs.Hops.{hop}
+use Rattle.lanes.proofs.Chains.{Begins, begins}
+use Rattle.lanes.proofs.OneByOne.{goes_start, goes_on}
+
+pub record Handed (rule : ℕ) (m : Move) (s₀ s : Store) (whole left : ℕ) : Type 0 where
+  pub kept : Kept rule s
+  pub goes : Goes rule m s₀.pieces (received s₀) s.pieces (received s) whole left
+  pub count : s.count ≡ s₀.count
+  pub room : s.noted + length (lane_of rule s m.source) < most_notes
+  pub few : whole + length (lane_of rule s m.source) ≤ most_places
+
+module _ (rule : ℕ) (m : Move) (s₀ : Store) (g : Going rule m s₀) where
+  pub handed_start : Handed rule m s₀ s₀ 0 m.weight
+  handed_start =
+      let n = length_in_order (ahead rule s₀.pieces) (λ i. eqb (at_slot s₀.pieces i).holder m.source) (received s₀) in
+      record {
+        kept = g.kept;
+        goes = goes_start rule m s₀.pieces (received s₀);
+        count = refl;
+        room = omega (arith, n, g.kept.all, g.room);
+        few = omega (arith, n, g.kept.all, g.kept.few);
+      }
+
+  module _ (s : Store) (whole left : ℕ) (h : Handed rule m s₀ s whole left) where
+    chain : Chain s.next (start m.source) (lane_of rule s m.source)
+    chain = h.kept.chained m.source g.source
+
+    -- nothing more goes whole
+    gone : (left ≢ 0 → behind s.next (start m.source) < most_places → left < (at_slot s.pieces (behind s.next (start m.source))).weight) → Gone rule m s₀ s (record { whole = whole; left = left })
+    gone heavy = record { kept = h.kept; goes = h.goes; heavier = heavy; room = omega (arith, h.room); count = h.count; few = omega (arith, h.few) }
+
+    pub gone_all : (left ≢ 0 → most_places ≤ behind s.next (start m.source)) → Gone rule m s₀ s (record { whole = whole; left = left })
+    gone_all e = gone (λ some inside. absurd (omega (arith, e some, inside)))
+
+    pub gone_whole : left < (at_slot s.pieces (behind s.next (start m.source))).weight → Gone rule m s₀ s (record { whole = whole; left = left })
+    gone_whole q = gone (λ some inside. q)
+
+    pub gone_last : whole ≡ most_places → Gone rule m s₀ s (record { whole = most_places; left = left })
+    gone_last q = rw (← q) (gone_all (λ some. go (lane_of rule s m.source) chain h.few))
+      where
+        go : (l : List ℕ) → Chain s.next (start m.source) l → whole + length l ≤ most_places → most_places ≤ behind s.next (start m.source)
+        go [] (ends e) k = e
+        go (y ∷ l) c k = absurd (omega (arith, k, q))
+
+    -- one more goes whole
+    module _ (x : ℕ) (first : x ≡ behind s.next (start m.source)) (inside : x < most_places) where
+      line : Begins x (lane_of rule s m.source)
+      line = begins x chain (sym first) inside
+
+      pub can_hand : Handing rule m.source m.destination x s
+      can_hand = record { kept = h.kept; source = g.source; destination = g.destination; apart = g.apart; first = sym first; slot = inside; room = omega (arith, h.room) }
+
+      pub handed_on : length s.pieces ≡ most_places → left ≢ 0 → (at_slot s.pieces x).weight ≤ left → (s' : Store) → HandedOver rule m.destination x s s'
+          → Handed rule m s₀ s' (whole + 1) (left - (at_slot s.pieces x).weight)
+      handed_on wide some light s' o =
+          let once = once_latest (take s.noted s.log) in
+          let q : x < length s.pieces = omega (arith, inside, wide) in
+          let from = (hop rule s.pieces (received s) m.source m.destination x line.rest once g.apart q line.is).from in
+          let n = ap length line.is in
+          record {
+            kept = o.kept;
+            goes = rw (o.pieces, o.order) (goes_on rule m s₀.pieces (received s₀) g.apart s.pieces (received s) whole left h.goes x line.rest once q line.is some light);
+            count = o.count ∙ h.count;
+            room = rw (o.pieces, o.order, from, o.noted) (omega (arith, h.room, n));
+            few = rw (o.pieces, o.order, from) (omega (arith, h.few, n));
+          }
