@@ -1,6 +1,6 @@
 -- A new slot holds a piece: it joins the lane of the piece's holder, and is received last.
 -- Assumes nothing.
-use Rattle.std.proofs.Common.{◌≡◌, refl, ap, ◌∙◌, false, ◌||◌, List, [], ◌∷◌, ◌++◌, ℕ, ◌+◌, ◌<◌, arith, ltb, length, length-append, set, take}
+use Rattle.std.proofs.Common.{◌≡◌, refl, ap, ◌∙◌, false, ◌||◌, List, [], ◌∷◌, ◌++◌, ℕ, ◌+◌, ◌<◌, arith, ltb, length, length-append, length-set, set, take}
 use Rattle.std.proofs.lemmas.Bool.Decides.{nat_tests}
 use Rattle.table.specs.declared.Piece.{Piece}
 use Rattle.table.specs.Table.{most_places}
@@ -16,7 +16,7 @@ use Rattle.lanes.proofs.Hops.{lane_kept, at_same, at_other}
 use Rattle.lanes.proofs.Receiving.{received_last}
 use Rattle.lanes.proofs.HandingOver.{noted_last}
 
-module _ (rule : ℕ) (p : Piece) (s : Store) (h : Addable rule p s) (wide : length s.pieces ≡ most_places) (links : length s.next ≡ most_places + most_lanes)
+module _ (rule : ℕ) (p : Piece) (s : Store) (h : Addable rule p s) (links : length s.next ≡ most_places + most_lanes)
     (notes : length s.log ≡ most_notes) where
   abbrev after : List Piece
   after = set s.pieces s.count p
@@ -60,7 +60,7 @@ module _ (rule : ℕ) (p : Piece) (s : Store) (h : Addable rule p s) (wide : len
       links_now = links_is ∙ j.links ∙ rw (next_is, pieces_is, log_is, noted_is) refl
 
       there : at_slot after s.count ≡ p
-      there = at_same s.pieces s.count p (omega (arith, h.place, wide))
+      there = at_same s.pieces s.count p (omega (arith, h.place, h.kept.slots))
 
       one_more_slot : (i : ℕ) → has i (received s) || has i (s.count ∷ []) ≡ ltb i (s.count + 1)
       unfolding has
@@ -69,6 +69,7 @@ module _ (rule : ℕ) (p : Piece) (s : Store) (h : Addable rule p s) (wide : len
       pub added : Added rule p s s₃
       added = record {
         kept = record {
+          slots = rw pieces_now (length-set s.pieces s.count p ∙ h.kept.slots);
           few = omega (arith, counted, h.place);
           room = omega (arith, noted_now, h.room);
           noted = λ i. rw (order_now, counted) (has_append i (received s) (s.count ∷ []) ∙ one_more_slot i);

@@ -1,7 +1,6 @@
 -- A whole piece goes from the front of a lane to its place in another: the slot leaves its lane by one link, joins the other, has another holder, and is received last.
 -- Assumes nothing.
-use Rattle.std.proofs.Common.{◌≡◌, refl, sym, subst, ap, ◌∙◌, ◌≢◌, Bool, true, false, List, [], ◌∷◌, ◌++◌, ℕ, ◌+◌, ◌<◌, arith, eqb, length, set, take, length-set, eqb-true, eq-eqb, ⊎_elim}
-use Rattle.std.proofs.lemmas.Bool.{cases_eq}
+use Rattle.std.proofs.Common.{◌≡◌, refl, sym, subst, ap, ◌∙◌, ◌≢◌, Bool, true, false, List, [], ◌∷◌, ◌++◌, ℕ, ◌+◌, ◌<◌, arith, eqb, length, set, take, length-set, eqb-true, eq-eqb}
 use Rattle.std.proofs.lemmas.Bool.Decides.{nat_tests}
 use Rattle.std.proofs.lemmas.List.{take_more_set}
 use borrow.Author.Tests.{eqb-false}
@@ -17,7 +16,7 @@ use Rattle.lanes.specs.Store.{most_notes, received, lane_of}
 use Rattle.lanes.specs.Steps.{Joining, Joined, Left, Handing, HandedOver}
 use Rattle.lanes.proofs.Notes.{has_without, latest_noted, once_latest, once_without, alone}
 use Rattle.lanes.proofs.Order.{not_ours}
-use Rattle.lanes.proofs.Hops.{Hop, hop, at_same, at_other}
+use Rattle.lanes.proofs.Hops.{Hop, hop, at_same, at_other, in_common}
 use Rattle.lanes.proofs.Chains.{has_first, chain_apart, chain_leave, Begins, begins}
 use Rattle.lanes.proofs.Receiving.{start_in_none, received_last}
 
@@ -25,7 +24,7 @@ use Rattle.lanes.proofs.Receiving.{start_in_none, received_last}
 pub noted_last : (s s' : Store) (x : ℕ) → s.noted < length s.log → s'.log ≡ set s.log s.noted x → s'.noted ≡ s.noted + 1 → received s' ≡ without x (received s) ++ (x ∷ [])
 noted_last s s' x h e n = rw (e, n, take_more_set s.log s.noted x h) (latest_noted x (take s.noted s.log))
 
-module _ (rule v d x : ℕ) (s : Store) (h : Handing rule v d x s) (wide : length s.pieces ≡ most_places) (links : length s.next ≡ most_places + most_lanes)
+module _ (rule v d x : ℕ) (s : Store) (h : Handing rule v d x s) (links : length s.next ≡ most_places + most_lanes)
     (notes : length s.log ≡ most_notes) where
   once : Once (received s)
   once = once_latest (take s.noted s.log)
@@ -34,7 +33,7 @@ module _ (rule v d x : ℕ) (s : Store) (h : Handing rule v d x s) (wide : lengt
   lane_v = begins x (h.kept.chained v h.source) h.first h.slot
 
   moved : Hop rule s.pieces (set s.pieces x (hand_to d (at_slot s.pieces x))) (received s) (without x (received s) ++ (x ∷ [])) v d x lane_v.rest
-  moved = hop rule s.pieces (received s) v d x lane_v.rest once h.apart (omega (arith, h.slot, wide)) lane_v.is
+  moved = hop rule s.pieces (received s) v d x lane_v.rest once h.apart (omega (arith, h.slot, h.kept.slots)) lane_v.is
 
   ours : (at_slot s.pieces x).holder ≡ v
   ours = eqb-true (at_slot s.pieces x).holder v moved.first.ours
@@ -98,13 +97,10 @@ module _ (rule v d x : ℕ) (s : Store) (h : Handing rule v d x s) (wide : lengt
       same = at_other s.pieces x (hand_to d (at_slot s.pieces x))
 
       there : at_slot after x ≡ hand_to d (at_slot s.pieces x)
-      there = at_same s.pieces x (hand_to d (at_slot s.pieces x)) (omega (arith, h.slot, wide))
+      there = at_same s.pieces x (hand_to d (at_slot s.pieces x)) (omega (arith, h.slot, h.kept.slots))
 
       born : (i : ℕ) → (at_slot after i).birth ≡ (at_slot s.pieces i).birth
-      born i = ⊎_elim
-          (λ e. ap (λ (k : ℕ). (at_slot after k).birth) e ∙ ap (λ (p : Piece). p.birth) there ∙ ap (λ (k : ℕ). (at_slot s.pieces k).birth) (sym e))
-          (λ n. ap (λ (p : Piece). p.birth) (same i n))
-          (cases_eq i x)
+      born = in_common s.pieces x (hand_to d (at_slot s.pieces x)) (λ p. p.birth) (omega (arith, h.slot, h.kept.slots)) refl
 
       links_now : s₄.next ≡ put_behind x (foot (ahead rule s.pieces) x (start d) (lane rule s.pieces d (without x (received s)))) (set s.next (start v) (behind s.next x))
       links_now = next_is ∙ j.links ∙ rw (l.links, l.pieces, l.log, l.noted, lane_without d (λ e. h.apart (sym e))) refl
@@ -112,6 +108,7 @@ module _ (rule v d x : ℕ) (s : Store) (h : Handing rule v d x s) (wide : lengt
       pub handed_over : HandedOver rule d x s s₄
       handed_over = record {
         kept = record {
+          slots = rw pieces_now (length-set s.pieces x _ ∙ h.kept.slots);
           few = rw count_now h.kept.few;
           room = omega (arith, noted_now, h.room);
           noted = λ i. rw (order_now, count_now) (moved.same_slots i ∙ h.kept.noted i);

@@ -2,25 +2,35 @@
 -- that may still go.
 -- Assumes nothing.
 use Rattle.std.proofs.Common.{◌≡◌, refl, sym, ap, ◌∙◌, ◌≢◌, List, [], ◌∷◌, ℕ, ◌+◌, ◌-◌, ◌≤◌, ◌<◌, arith, length, eqb, take}
+use borrow.Author.Tests.{le-leb, lt-leb}
+use Rattle.table.specs.declared.Piece.{Piece}
+use Rattle.table.specs.Pieces.{hand_to}
 use Rattle.table.specs.Table.{most_places}
 use Rattle.taking.specs.declared.Move.{Move}
 use Rattle.lanes.specs.Order.{at_slot, ahead}
-use Rattle.lanes.specs.Chains.{start, behind, Chain, ends}
+use Rattle.lanes.specs.Chains.{start, behind, Chain, ends, leads}
 use Rattle.lanes.specs.declared.Store.{Store}
 use Rattle.lanes.specs.Store.{most_notes, received, lane_of, Kept}
 use Rattle.lanes.specs.Steps.{Handing, HandedOver}
-use Rattle.lanes.specs.Walk.{Goes}
+use Rattle.lanes.specs.Walk.{remains, Goes}
 use Rattle.lanes.specs.Moving.{Going, Gone}
 use Rattle.lanes.proofs.Notes.{once_latest}
 use Rattle.lanes.proofs.Order.{length_in_order}
-use Rattle.lanes.proofs.Hops.{hop}
-use Rattle.lanes.proofs.Chains.{Begins, begins}
-use Rattle.lanes.proofs.OneByOne.{goes_start, goes_on}
+use Rattle.lanes.proofs.Hops.{hop, in_common}
+use Rattle.lanes.proofs.Chains.{Begins, begins, none_behind}
+use Rattle.lanes.proofs.OneByOne.{hopped, goes_start, goes_on}
+
+-- what remains turns on the weights alone
+remains_agrees : (ps ps' : List Piece) → ((i : ℕ) → (at_slot ps' i).weight ≡ (at_slot ps i).weight) → (want : ℕ) (l : List ℕ) → remains ps' want l ≡ remains ps want l
+unfolding remains
+remains_agrees ps ps' e want [] = refl
+remains_agrees ps ps' e want (i ∷ l) = rw (e i, remains_agrees ps ps' e (want - (at_slot ps i).weight) l) refl
 
 pub record Handed (rule : ℕ) (m : Move) (s₀ s : Store) (whole left : ℕ) : Type 0 where
   pub kept : Kept rule s
   pub goes : Goes rule m s₀.pieces (received s₀) s.pieces (received s) whole left
   pub count : s.count ≡ s₀.count
+  pub wanted : remains s₀.pieces m.weight (lane_of rule s₀ m.source) ≡ remains s.pieces left (lane_of rule s m.source)
   pub room : s.noted + length (lane_of rule s m.source) < most_notes
   pub few : whole + length (lane_of rule s m.source) ≤ most_places
 
@@ -32,6 +42,7 @@ module _ (rule : ℕ) (m : Move) (s₀ : Store) (g : Going rule m s₀) where
         kept = g.kept;
         goes = goes_start rule m s₀.pieces (received s₀);
         count = refl;
+        wanted = refl;
         room = omega (arith, n, g.kept.all, g.room);
         few = omega (arith, n, g.kept.all, g.kept.few);
       }
@@ -40,15 +51,34 @@ module _ (rule : ℕ) (m : Move) (s₀ : Store) (g : Going rule m s₀) where
     chain : Chain s.next (start m.source) (lane_of rule s m.source)
     chain = h.kept.chained m.source g.source
 
-    -- nothing more goes whole
-    gone : (left ≢ 0 → behind s.next (start m.source) < most_places → left < (at_slot s.pieces (behind s.next (start m.source))).weight) → Gone rule m s₀ s (record { whole = whole; left = left })
-    gone heavy = record { kept = h.kept; goes = h.goes; heavier = heavy; room = omega (arith, h.room); count = h.count; few = omega (arith, h.few) }
+    -- nothing more goes whole, and what is left remains
+    gone : (left ≢ 0 → remains s.pieces left (lane_of rule s m.source) ≡ left)
+        → (left ≢ 0 → behind s.next (start m.source) < most_places → left < (at_slot s.pieces (behind s.next (start m.source))).weight)
+        → Gone rule m s₀ s (record { whole = whole; left = left })
+    gone stays heavy = record {
+      kept = h.kept;
+      goes = h.goes;
+      heavier = heavy;
+      place = λ some. rw h.count (g.place (λ z. some (sym (h.wanted ∙ stays some) ∙ z)));
+      room = omega (arith, h.room);
+      count = h.count;
+      few = omega (arith, h.few);
+    }
+
+    empty : most_places ≤ behind s.next (start m.source) → remains s.pieces left (lane_of rule s m.source) ≡ left
+    unfolding remains
+    empty e = rw (none_behind chain e) refl
 
     pub gone_all : (left ≢ 0 → most_places ≤ behind s.next (start m.source)) → Gone rule m s₀ s (record { whole = whole; left = left })
-    gone_all e = gone (λ some inside. absurd (omega (arith, e some, inside)))
+    gone_all e = gone (λ some. empty (e some)) (λ some inside. absurd (omega (arith, e some, inside)))
+
+    heavy_behind : (l : List ℕ) → Chain s.next (start m.source) l → left < (at_slot s.pieces (behind s.next (start m.source))).weight → remains s.pieces left l ≡ left
+    unfolding remains
+    heavy_behind [] c e = refl
+    heavy_behind (y ∷ l) (leads b q c) e = rw (lt-leb (at_slot s.pieces y).weight left (rw b at e)) refl
 
     pub gone_whole : left < (at_slot s.pieces (behind s.next (start m.source))).weight → Gone rule m s₀ s (record { whole = whole; left = left })
-    gone_whole q = gone (λ some inside. q)
+    gone_whole q = gone (λ some. heavy_behind (lane_of rule s m.source) chain q) (λ some inside. q)
 
     pub gone_last : whole ≡ most_places → Gone rule m s₀ s (record { whole = most_places; left = left })
     gone_last q = rw (← q) (gone_all (λ some. go (lane_of rule s m.source) chain h.few))
@@ -65,17 +95,24 @@ module _ (rule : ℕ) (m : Move) (s₀ : Store) (g : Going rule m s₀) where
       pub can_hand : Handing rule m.source m.destination x s
       can_hand = record { kept = h.kept; source = g.source; destination = g.destination; apart = g.apart; first = sym first; slot = inside; room = omega (arith, h.room) }
 
-      pub handed_on : length s.pieces ≡ most_places → left ≢ 0 → (at_slot s.pieces x).weight ≤ left → (s' : Store) → HandedOver rule m.destination x s s'
+      -- the slot is passed
+      passed : (at_slot s.pieces x).weight ≤ left → (l : List ℕ) → remains s.pieces left (x ∷ l) ≡ remains s.pieces (left - (at_slot s.pieces x).weight) l
+      unfolding remains
+      passed light l = rw (le-leb (at_slot s.pieces x).weight left light) refl
+
+      pub handed_on : left ≢ 0 → (at_slot s.pieces x).weight ≤ left → (s' : Store) → HandedOver rule m.destination x s s'
           → Handed rule m s₀ s' (whole + 1) (left - (at_slot s.pieces x).weight)
-      handed_on wide some light s' o =
+      handed_on some light s' o =
           let once = once_latest (take s.noted s.log) in
-          let q : x < length s.pieces = omega (arith, inside, wide) in
+          let q : x < length s.pieces = omega (arith, inside, h.kept.slots) in
           let from = (hop rule s.pieces (received s) m.source m.destination x line.rest once g.apart q line.is).from in
           let n = ap length line.is in
+          let weights = in_common s.pieces x (hand_to m.destination (at_slot s.pieces x)) (λ p. p.weight) q refl in
           record {
             kept = o.kept;
             goes = rw (o.pieces, o.order) (goes_on rule m s₀.pieces (received s₀) g.apart s.pieces (received s) whole left h.goes x line.rest once q line.is some light);
             count = o.count ∙ h.count;
+            wanted = h.wanted ∙ rw (line.is, o.pieces, o.order, from) (passed light line.rest ∙ sym (remains_agrees s.pieces (hopped m.destination x s.pieces) weights (left - (at_slot s.pieces x).weight) line.rest));
             room = rw (o.pieces, o.order, from, o.noted) (omega (arith, h.room, n));
             few = rw (o.pieces, o.order, from) (omega (arith, h.few, n));
           }

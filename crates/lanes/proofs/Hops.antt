@@ -54,6 +54,13 @@ module _ (ps : List Piece) (x : ℕ) (p : Piece) where
   pub at_same : x < length ps → at_slot (set ps x p) x ≡ p
   at_same h = get_or-set_same ps x p no_piece h
 
+  -- what p has in common with the piece that lay there, every slot has as it was
+  pub in_common : (f : Piece → ℕ) → x < length ps → f p ≡ f (at_slot ps x) → (i : ℕ) → f (at_slot (set ps x p) i) ≡ f (at_slot ps i)
+  in_common f h q i = ⊎_elim
+      (λ e. ap (λ (j : ℕ). f (at_slot (set ps x p) j)) e ∙ ap f (at_same h) ∙ q ∙ ap (λ (j : ℕ). f (at_slot ps j)) (sym e))
+      (λ ne. ap f (at_other i ne))
+      (cases_eq i x)
+
 -- The whole piece in slot x goes from s to d: pieces by slot ps become ps', the order of receipt r becomes r', and l is what is left of the lane of s.
 pub record Hop (rule : ℕ) (ps ps' : List Piece) (r r' : List ℕ) (s d x : ℕ) (l : List ℕ) : Type 0 where
   pub first : First rule ps s r x l
@@ -148,7 +155,7 @@ pub record Reweighed (rule : ℕ) (ps ps' : List Piece) (r b : List ℕ) (x : �
 pub reweighed : (rule : ℕ) (ps : List Piece) (r b : List ℕ) (x : ℕ) (a : List ℕ) (w : ℕ) → Once r → r ≡ b ++ (x ∷ a) → x < length ps
     → Reweighed rule ps (set ps x (of_weight w (at_slot ps x))) r b x a w
 reweighed rule ps r b x a w once lies h = record {
-  lanes = λ v. same_lane rule ps ps' v r (λ i u. kept (λ q. q.holder) refl i) (λ i u. kept (λ q. q.birth) refl i);
+  lanes = λ v. same_lane rule ps ps' v r (λ i u. in_common ps x p (λ q. q.holder) h refl i) (λ i u. in_common ps x p (λ q. q.birth) h refl i);
   pieces = ap (pieces_at ps') lies ∙ pieces_append ps' b (x ∷ a)
       ∙ rw (at_same ps x p h, pieces_kept ps ps' x (at_other ps x p) b z.not_before, pieces_kept ps ps' x (at_other ps x p) a z.not_after) refl;
 }
@@ -161,9 +168,3 @@ reweighed rule ps r b x a w once lies h = record {
 
     z : Alone x b a
     z = alone x b a (subst Once lies once)
-
-    kept : (f : Piece → ℕ) → f p ≡ f (at_slot ps x) → (i : ℕ) → f (at_slot ps' i) ≡ f (at_slot ps i)
-    kept f q i = ⊎_elim
-        (λ e. ap (λ (j : ℕ). f (at_slot ps' j)) e ∙ ap f (at_same ps x p h) ∙ q ∙ ap (λ (j : ℕ). f (at_slot ps j)) (sym e))
-        (λ ne. ap f (at_other ps x p i ne))
-        (cases_eq i x)

@@ -12,3 +12,4 @@ pub mod Walk
 pub mod OneByOne
 pub mod Laid
 pub mod HandingWhole
+pub mod Made

@@ -16,6 +16,7 @@ use Rattle.taking.specs.InTable.{Moved, stopped, with_one_more, move_from, move_
 use Rattle.taking.proofs.InTable.{taken_in_table}
 use Rattle.lanes.specs.Order.{at_slot, pieces_at, ahead, join, lane}
 use Rattle.lanes.specs.Walk.{after, Goes}
+use Rattle.lanes.specs.Moving.{cut_off}
 use Rattle.lanes.specs.Notes.{has, without, Once}
 use Rattle.lanes.proofs.Order.{First, picks_none, picks_first}
 use Rattle.lanes.proofs.Hops.{hop, NewSlot, new_slot, Reweighed, reweighed}
@@ -33,11 +34,6 @@ hopped d x ps = set ps x (hand_to d (at_slot ps x))
 
 abbrev pub last_of : ℕ → List ℕ → List ℕ
 last_of x r = without x r ++ (x ∷ [])
-
--- the slots once the piece in slot x gives so much, and what it gives lies in slot k
-abbrev pub cut_off : ℕ → ℕ → ℕ → ℕ → List Piece → List Piece
-cut_off d x k want ps =
-    set (set ps x (of_weight ((at_slot ps x).weight - want) (at_slot ps x))) k (hand_to d (of_weight want (at_slot ps x)))
 
 -- The piece in slot x is cut, and the new slot k is received: what the move did, and the lanes.
 pub record Cut (rule : ℕ) (ps ps' : List Piece) (r r' : List ℕ) (s d k want : ℕ) : Type 0 where

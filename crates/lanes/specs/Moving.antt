@@ -1,22 +1,28 @@
 -- What a move asks of memory as it goes on, and promises.
 -- Definitions only. Assumes nothing.
-use Rattle.std.specs.Prelude.{◌≡◌, ◌≢◌, ℕ, ◌+◌, ◌<◌, ◌≤◌}
+use Rattle.std.specs.Prelude.{◌≡◌, ◌≢◌, List, [], ◌∷◌, ◌++◌, ℕ, ◌+◌, ◌-◌, ◌<◌, ◌≤◌, set}
+use Rattle.table.specs.declared.Piece.{Piece}
+use Rattle.table.specs.Pieces.{of_weight, hand_to}
 use Rattle.table.specs.Table.{most_places}
 use Rattle.taking.specs.declared.Move.{Move}
+use Rattle.taking.specs.Taking.{taken, handed}
 use Rattle.picking.specs.declared.plan.Plan.{Plan}
+use Rattle.moving.specs.declared.Applied.{Applied}
+use Rattle.moving.specs.Applied.{accepted}
 use Rattle.lanes.specs.declared.Store.{Store}
 use Rattle.lanes.specs.Lanes.{most_lanes}
 use Rattle.lanes.specs.Order.{at_slot}
 use Rattle.lanes.specs.Chains.{start, behind}
-use Rattle.lanes.specs.Store.{most_notes, received, Kept}
-use Rattle.lanes.specs.Walk.{Goes}
+use Rattle.lanes.specs.Store.{most_notes, received, pieces_in, lane_of, Kept}
+use Rattle.lanes.specs.Walk.{remains, Goes}
 
--- Pieces can be moved from lane to lane, and the log has room for a note of every piece and one more.
+-- Pieces can be moved from lane to lane: there is a place for a split or what is born, and the log has room for a note of every piece and one more.
 pub record Going (rule : ℕ) (m : Move) (s : Store) : Type 0 where
   pub kept : Kept rule s
   pub source : m.source < most_lanes
   pub destination : m.destination < most_lanes
   pub apart : m.source ≢ m.destination
+  pub place : remains s.pieces m.weight (lane_of rule s m.source) ≢ 0 → s.count < most_places
   pub room : s.noted + s.count < most_notes
 
 -- Whole pieces have gone as planned, and the next of the source's lane is heavier than what is left.
@@ -24,6 +30,41 @@ pub record Gone (rule : ℕ) (m : Move) (s s' : Store) (plan : Plan) : Type 0 wh
   pub kept : Kept rule s'
   pub goes : Goes rule m s.pieces (received s) s'.pieces (received s') plan.whole plan.left
   pub heavier : plan.left ≢ 0 → behind s'.next (start m.source) < most_places → plan.left < (at_slot s'.pieces (behind s'.next (start m.source))).weight
+  pub place : plan.left ≢ 0 → s'.count < most_places
   pub room : s'.noted < most_notes
   pub count : s'.count ≡ s.count
   pub few : plan.whole ≤ most_places
+
+-- The piece in slot x, the first of a lane, gives so much of its weight to holder d, in a new slot, and keeps the rest; it does.
+pub record Splitting (rule d x weight : ℕ) (s : Store) : Type 0 where
+  pub kept : Kept rule s
+  pub used : x < s.count
+  pub place : s.count < most_places
+  pub destination : d < most_lanes
+  pub less : weight < (at_slot s.pieces x).weight
+  pub room : s.noted < most_notes
+
+-- the slots once it has
+abbrev pub cut_off : ℕ → ℕ → ℕ → ℕ → List Piece → List Piece
+cut_off d x k weight ps =
+    set (set ps x (of_weight ((at_slot ps x).weight - weight) (at_slot ps x))) k (hand_to d (of_weight weight (at_slot ps x)))
+
+pub record SplitOff (rule d x weight : ℕ) (s s' : Store) : Type 0 where
+  pub kept : Kept rule s'
+  pub pieces : s'.pieces ≡ cut_off d x s.count weight s.pieces
+  pub order : received s' ≡ received s ++ (s.count ∷ [])
+  pub count : s'.count ≡ s.count + 1
+
+-- The move is made.
+pub record Made (rule : ℕ) (m : Move) (s s' : Store) (a : Applied) : Type 0 where
+  pub kept : Kept rule s'
+  pub pieces : pieces_in s' ≡ handed m (taken rule m (pieces_in s))
+  pub answer : a ≡ accepted m (taken rule m (pieces_in s))
+
+-- The log has room for the notes of a move, and nothing else is another.
+pub record Roomy (rule : ℕ) (s s' : Store) : Type 0 where
+  pub kept : Kept rule s'
+  pub order : received s' ≡ received s
+  pub pieces : s'.pieces ≡ s.pieces
+  pub count : s'.count ≡ s.count
+  pub room : s'.noted + s'.count < most_notes

@@ -27,6 +27,7 @@ lane_of rule s v = lane rule s.pieces v (received s)
 
 -- Memory in order, under a rule: each slot in use has a note, no other has one, and each lane lies from its start on. Nothing is asked of hints.
 pub record Kept (rule : ℕ) (s : Store) : Type 0 where
+  pub slots : length s.pieces ≡ most_places
   pub few : s.count ≤ most_places
   pub room : s.noted ≤ most_notes
   pub noted : (i : ℕ) → has i (received s) ≡ ltb i s.count

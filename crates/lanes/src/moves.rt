@@ -1,14 +1,17 @@
 // A move by lanes: whole pieces are handed over one after the other, and what is then still wanted is split off the next one or born.
-ghost use Rattle.std.specs.Prelude.{◌≡◌, ◌<◌, List, ℕ};
+ghost use Rattle.std.specs.Prelude.{◌≡◌, ◌≢◌, ◌<◌, List, ℕ};
 ghost use Rattle.lanes.specs.Chains.{start, Chain};
 ghost use Rattle.lanes.specs.Lanes.{most_lanes};
 ghost use Rattle.lanes.specs.Steps.{Leads};
 ghost use Rattle.lanes.specs.Walk.{remains};
-ghost use Rattle.lanes.specs.Moving.{Going, Gone};
+ghost use Rattle.lanes.specs.Moving.{Going, Gone, Splitting, SplitOff, Made, Roomy};
+ghost use Rattle.taking.specs.Stirring.{stirred_rule};
+ghost use Rattle.lanes.specs.Store.{Kept};
 
-use super::Store;
+use super::{NOTES, Store};
+use moving::Applied;
 use picking::plan::Plan;
-use table::PLACES;
+use table::{PLACES, Piece};
 use taking::Move;
 
 impl Store {
@@ -55,6 +58,66 @@ impl Store {
         Plan {
             whole: PLACES,
             left,
+        }
+    }
+
+    // The piece in slot x gives so much to holder d, in a new slot, and keeps the rest.
+    fn split_off(&mut self, rule: u32, d: u32, x: usize, weight: u32)
+        requires { Splitting rule d x weight self.old }
+        ensures { SplitOff rule d x weight self.old self.new }
+    {
+        let p = self.pieces[x];
+        self.pieces[x] = p.of_weight(p.weight - weight);
+        self.add(rule, p.of_weight(weight).hand_to(d));
+    }
+
+    // The move is made.
+    pub fn carry_out(&mut self, rule: u32, m: Move) -> Applied
+        requires { Going rule m self.old × (rule ≢ stirred_rule) }
+        ensures { Made rule m self.old self.new result }
+    {
+        let Plan { whole, left } = self.hand_over_whole(rule, m);
+        let whole = whole as u32;
+        if left == 0 {
+            return Applied {
+                whole,
+                split: 0,
+                born: 0,
+                count: self.count,
+            };
+        }
+        let x = self.next[PLACES + m.source as usize] as usize;
+        if PLACES <= x {
+            let piece = Piece {
+                holder: m.destination,
+                origin: m.source,
+                birth: m.birth,
+                weight: left,
+            };
+            self.add(rule, piece);
+            return Applied {
+                whole,
+                split: 0,
+                born: left,
+                count: self.count,
+            };
+        }
+        self.split_off(rule, m.destination, x, left);
+        Applied {
+            whole,
+            split: 1,
+            born: 0,
+            count: self.count,
+        }
+    }
+
+    // The log is closed where it might have no room for the notes of a move.
+    pub fn make_room(&mut self, rule: u32)
+        requires { Kept rule self.old }
+        ensures { Roomy rule self.old self.new }
+    {
+        if NOTES - 1 - self.count < self.noted {
+            self.close();
         }
     }
 }

@@ -16,7 +16,7 @@ pub hand_over-requires : goal.hand_over-requires
 hand_over-requires c = can_hand _ _ _ c.requires _ _ _ c.loop-whole.invariant _ refl (search rules)
 
 pub loop-whole-preserved : goal.loop-whole-preserved
-loop-whole-preserved c = handed_on _ _ _ c.requires _ _ _ c.loop-whole.invariant _ refl (search rules) (search rules) (search rules) (search rules) _ c.hand_over.ensures
+loop-whole-preserved c = handed_on _ _ _ c.requires _ _ _ c.loop-whole.invariant _ refl (search rules) (search rules) (search rules) _ c.hand_over.ensures
 
 pub returns : goal.returns
 returns c = gone_last _ _ _ c.requires _ _ _ c.loop-whole.invariant (search rules)

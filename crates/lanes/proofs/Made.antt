@@ -1,0 +1,149 @@
+-- A move is made: once whole pieces have gone, what is left is split off the next piece, or born, or there is nothing left. Before it the log is closed, where it might have no room.
+-- Assumes nothing.
+use Rattle.std.proofs.Common.{◌≡◌, refl, sym, ap, ◌∙◌, ◌≢◌, true, false, List, ◌∷◌, ℕ, ◌-◌, ◌≤◌, ◌<◌, arith, length, eqb, set, take, length-set, ltb-true}
+use Rattle.std.proofs.lemmas.Bool.Decides.{nat_tests}
+use lib.ListN.{length-map}
+use Rattle.table.specs.declared.Piece.{Piece}
+use Rattle.table.specs.Pieces.{of_weight, hand_to}
+use Rattle.table.specs.Table.{most_places}
+use Rattle.taking.specs.declared.Move.{Move}
+use Rattle.taking.specs.Taking.{newborn, taken, handed}
+use Rattle.taking.specs.Stirring.{stirred_rule}
+use Rattle.picking.specs.declared.plan.Plan.{Plan}
+use Rattle.lanes.specs.Notes.{has, latest, Once}
+use Rattle.lanes.specs.Order.{at_slot, ahead}
+use Rattle.lanes.specs.Chains.{start, behind, Chain}
+use Rattle.lanes.specs.declared.Store.{Store}
+use Rattle.lanes.specs.Store.{received, pieces_in, lane_of, Kept}
+use Rattle.lanes.specs.Steps.{Closed, Addable, Added}
+use Rattle.lanes.specs.Moving.{Going, Gone, Splitting, SplitOff, Made, Roomy}
+use Rattle.lanes.proofs.Notes.{latest_latest, once_latest, Among, among}
+use Rattle.lanes.proofs.Order.{members}
+use Rattle.lanes.proofs.Hops.{Reweighed, reweighed}
+use Rattle.lanes.proofs.Chains.{Begins, begins, none_behind}
+use Rattle.lanes.proofs.OneByOne.{Ended, ends_even, ends_split, ends_born}
+
+-- the log is closed
+pub roomy : (rule : ℕ) (s s' : Store) → Kept rule s → Closed s s' → Roomy rule s s'
+roomy rule s s' k c = record {
+  kept = record {
+    slots = rw c.pieces k.slots;
+    few = rw c.count k.few;
+    room = omega (arith, c.noted, k.few);
+    noted = rw (order, c.count) k.noted;
+    all = rw (order, c.count) k.all;
+    chained = rw (order, c.links, c.pieces) k.chained;
+  };
+  order = order;
+  pieces = c.pieces;
+  count = c.count;
+  room = omega (arith, c.noted, c.count, k.few);
+}
+  where
+    order : received s' ≡ received s
+    order = ap latest c.log ∙ latest_latest (take s.noted s.log)
+
+-- the slots of a lane are in use, and no other is
+module _ (rule : ℕ) (s : Store) (k : Kept rule s) where
+  pub first_used : (v x : ℕ) (l : List ℕ) → lane_of rule s v ≡ x ∷ l → x < s.count
+  unfolding has
+  first_used v x l e =
+      let m = members (ahead rule s.pieces) (λ i. eqb (at_slot s.pieces i).holder v) x (received s) in
+      let h : has x (lane_of rule s v) ≡ true = ap (has x) e ∙ grind (arith, nat_tests) in
+      ltb-true x s.count (sym (k.noted x) ∙ grind (arith, nat_tests, m, h))
+
+  pub next_unused : has s.count (received s) ≡ false
+  next_unused = k.noted s.count ∙ grind (arith, nat_tests)
+
+  pub length_pieces_in : length (pieces_in s) ≡ s.count
+  length_pieces_in = rw length-map k.all
+
+-- a piece gives a part
+module _ (rule d x weight : ℕ) (s : Store) (h : Splitting rule d x weight s) where
+  abbrev part : Piece
+  part = hand_to d (of_weight weight (at_slot s.pieces x))
+
+  lies : Among x (received s)
+  lies = among x (received s) (h.kept.noted x ∙ grind (arith, nat_tests, h.used))
+
+  lighter : Reweighed rule s.pieces (set s.pieces x (of_weight ((at_slot s.pieces x).weight - weight) (at_slot s.pieces x))) (received s) lies.before x lies.after ((at_slot s.pieces x).weight - weight)
+  lighter = reweighed rule s.pieces (received s) lies.before x lies.after ((at_slot s.pieces x).weight - weight) (once_latest (take s.noted s.log)) lies.lies (omega (arith, h.used, h.place, h.kept.slots))
+
+  module _ (s₁ : Store) (pieces_is : s₁.pieces ≡ set s.pieces x (of_weight ((at_slot s.pieces x).weight - weight) (at_slot s.pieces x))) (next_is : s₁.next ≡ s.next)
+      (log_is : s₁.log ≡ s.log) (noted_is : s₁.noted ≡ s.noted) (count_is : s₁.count ≡ s.count) where
+    pub part_addable : Addable rule part s₁
+    part_addable = record {
+      kept = record {
+        slots = rw pieces_is (length-set s.pieces x _ ∙ h.kept.slots);
+        few = rw count_is h.kept.few;
+        room = rw noted_is h.kept.room;
+        noted = rw (log_is, noted_is, count_is) h.kept.noted;
+        all = rw (log_is, noted_is, count_is) h.kept.all;
+        chained = λ v q. rw (next_is, pieces_is, log_is, noted_is, lighter.lanes v) (h.kept.chained v q);
+      };
+      place = rw count_is h.place;
+      holder = h.destination;
+      room = rw noted_is h.room;
+    }
+
+    pub part_added : (s₂ : Store) → Added rule part s₁ s₂ → SplitOff rule d x weight s s₂
+    part_added s₂ a = record {
+      kept = a.kept;
+      pieces = a.pieces ∙ rw (pieces_is, count_is) refl;
+      order = a.order ∙ rw (log_is, noted_is, count_is) refl;
+      count = a.count ∙ rw count_is refl;
+    }
+
+-- the ways out
+module _ (rule : ℕ) (m : Move) (s : Store) (g : Going rule m s) (first : rule ≢ stirred_rule) (s₁ : Store) (plan : Plan) (o : Gone rule m s s₁ plan) where
+  chain : Chain s₁.next (start m.source) (lane_of rule s₁ m.source)
+  chain = o.kept.chained m.source g.source
+
+  once : Once (received s₁)
+  once = once_latest (take s₁.noted s₁.log)
+
+  -- the answer, where the pieces are these
+  made : (s₂ : Store) (split born : ℕ) → Kept rule s₂ → Ended m (taken rule m (pieces_in s)) (pieces_in s₂) plan.whole split born
+      → Made rule m s s₂ (record { whole = plan.whole; split = split; born = born; count = s₂.count })
+  made s₂ split born k e =
+      let n : s₂.count ≡ length (handed m (taken rule m (pieces_in s))) = sym (ap length e.pieces ∙ length_pieces_in rule s₂ k) in
+      record { kept = k; pieces = sym e.pieces; answer = rw (← e.whole, ← e.split, ← e.born, n) refl }
+
+  pub made_even : plan.left ≡ 0 → Made rule m s s₁ (record { whole = plan.whole; split = 0; born = 0; count = s₁.count })
+  made_even z = made s₁ 0 0 o.kept (ends_even rule m s.pieces (received s) g.apart s₁.pieces (received s₁) plan.whole plan.left o.goes first z)
+
+  module _ (some : plan.left ≢ 0) where
+    inside : s₁.count < length s₁.pieces
+    inside = omega (arith, o.place some, o.kept.slots)
+
+    pub can_bear : Addable rule (newborn m plan.left) s₁
+    can_bear = record { kept = o.kept; place = o.place some; holder = g.destination; room = o.room }
+
+    pub made_born : most_places ≤ behind s₁.next (start m.source) → (s₂ : Store) → Added rule (newborn m plan.left) s₁ s₂
+        → Made rule m s s₂ (record { whole = plan.whole; split = 0; born = plan.left; count = s₂.count })
+    made_born q s₂ a =
+        let e = ends_born rule m s.pieces (received s) g.apart s₁.pieces (received s₁) plan.whole plan.left o.goes first (none_behind chain q) some s₁.count (next_unused rule s₁ o.kept) inside in
+        made s₂ 0 plan.left a.kept (rw (a.pieces, a.order) e)
+
+    module _ (x : ℕ) (is : x ≡ behind s₁.next (start m.source)) (q : x < most_places) where
+      line : Begins x (lane_of rule s₁ m.source)
+      line = begins x chain (sym is) q
+
+      heavy : plan.left < (at_slot s₁.pieces x).weight
+      heavy = rw is (o.heavier some (rw is at q))
+
+      pub can_split : Splitting rule m.destination x plan.left s₁
+      can_split = record {
+        kept = o.kept;
+        used = first_used rule s₁ o.kept m.source x line.rest line.is;
+        place = o.place some;
+        destination = g.destination;
+        less = heavy;
+        room = o.room;
+      }
+
+      pub made_split : (s₂ : Store) → SplitOff rule m.destination x plan.left s₁ s₂ → Made rule m s s₂ (record { whole = plan.whole; split = 1; born = 0; count = s₂.count })
+      made_split s₂ a =
+          let e = ends_split rule m s.pieces (received s) g.apart s₁.pieces (received s₁) plan.whole plan.left o.goes first x line.rest once (omega (arith, q, o.kept.slots)) line.is some heavy
+          s₁.count (next_unused rule s₁ o.kept) inside in
+          made s₂ 1 0 a.kept (rw (a.pieces, a.order) e)
