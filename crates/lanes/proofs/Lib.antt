@@ -13,3 +13,6 @@ pub mod OneByOne
 pub mod Laid
 pub mod HandingWhole
 pub mod Made
+pub mod Fresh
+pub mod Moving
+pub mod Written

@@ -1,7 +1,7 @@
 -- The last notes of a log are listed from the newest on. The invariant: of the notes behind, the slots are marked as seen, and the last notes are listed at the end of the
 -- room for all.
 -- Assumes nothing.
-use Rattle.std.proofs.Common.{◌≡◌, refl, sym, ap, ◌∙◌, Bool, true, false, ◌||◌, List, [], ◌∷◌, ℕ, zero, suc, ◌+◌, ◌-◌, ◌≤◌, ◌<◌, arith, eqb, length, get_or, set, take, drop, replicate, length-set, length-take-le, get_or-take, eqb-true, ltb-true}
+use Rattle.std.proofs.Common.{◌≡◌, refl, sym, ap, ◌∙◌, Bool, true, false, ◌||◌, List, [], ◌∷◌, ℕ, suc, ◌+◌, ◌-◌, ◌≤◌, ◌<◌, arith, eqb, length, get_or, set, take, drop, replicate, length-set, length-take-le, get_or-take, eqb-true, ltb-true}
 use Rattle.std.proofs.lemmas.Bool.Decides.{nat_tests}
 use Rattle.std.proofs.lemmas.List.{drop_more, drop-set, get_or-set_same, get_or-set_other, get_or-replicate, length-replicate}
 use Rattle.std.proofs.Math.Seq.{take-set-lt, drop-length}
@@ -12,17 +12,11 @@ use Rattle.lanes.specs.Closing.{Listable, Lists}
 use Rattle.lanes.specs.declared.Store.{Store}
 use Rattle.lanes.specs.Store.{most_notes}
 use Rattle.lanes.specs.Steps.{Closable}
-use Rattle.lanes.proofs.Notes.{has_latest, length_latest_drop}
+use Rattle.lanes.proofs.Notes.{has_at, has_latest, length_latest_drop}
 
 -- the last k of the notes
 abbrev newest : List ℕ → ℕ → List ℕ
 newest notes k = drop (length notes - k) notes
-
-has_at : (l : List ℕ) (i : ℕ) → i < length l → has (get_or l i 0) l ≡ true
-unfolding has
-has_at [] i q = absurd (omega (arith, q))
-has_at (j ∷ l) zero q = grind (arith, nat_tests)
-has_at (j ∷ l) (suc i) q = let h = has_at l i (omega (arith, q)) in grind (arith, nat_tests)
 
 pub record Listing (notes : List ℕ) (count : ℕ) (seen : List Bool) (last : List ℕ) (free k : ℕ) : Type 0 where
   pub marks : length seen ≡ most_places

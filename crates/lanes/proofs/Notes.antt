@@ -1,6 +1,6 @@
 -- Laws of notes: the last notes of a log have the same slots, each once, and to note a slot once more moves it to the end.
 -- Assumes nothing.
-use Rattle.std.proofs.Common.{◌≡◌, refl, sym, ap, ◌∙◌, Bool, true, false, not, ◌||◌, ◌&&◌, cond, List, [], ◌∷◌, ◌++◌, ℕ, zero, suc, ◌≤◌, eqb, drop, length, arith, eqb-true, true≢false}
+use Rattle.std.proofs.Common.{◌≡◌, refl, sym, ap, ◌∙◌, Bool, true, false, not, ◌||◌, ◌&&◌, cond, List, [], ◌∷◌, ◌++◌, ℕ, zero, suc, ◌≤◌, ◌<◌, eqb, drop, length, get_or, arith, eqb-true, true≢false}
 use Rattle.std.proofs.lemmas.Bool.Decides.{nat_tests}
 use Rattle.std.proofs.lemmas.Grind.{common_steps}
 use Rattle.lanes.specs.Notes.{has, latest, without, Once}
@@ -108,3 +108,10 @@ pub length_latest_drop : (k : ℕ) (l : List ℕ) → length (latest (drop k l))
 length_latest_drop zero l = omega arith
 length_latest_drop (suc k) [] = omega arith
 length_latest_drop (suc k) (i ∷ l) = grind (arith, common_steps, length_latest i l, length_latest_drop k l)
+
+-- what lies at an index is one of them
+pub has_at : (l : List ℕ) (i : ℕ) → i < length l → has (get_or l i 0) l ≡ true
+unfolding has
+has_at [] i q = absurd (omega (arith, q))
+has_at (j ∷ l) zero q = grind (arith, nat_tests)
+has_at (j ∷ l) (suc i) q = let h = has_at l i (omega (arith, q)) in grind (arith, nat_tests)

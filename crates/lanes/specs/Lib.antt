@@ -3,6 +3,7 @@ pub mod Order
 pub mod Notes
 pub mod Chains
 pub mod Store
+pub mod Kept
 pub mod Steps
 pub mod Closing
 pub mod Walk

@@ -74,6 +74,13 @@ pub record Closed (s s' : Store) : Type 0 where
   pub pieces : s'.pieces ≡ s.pieces
   pub count : s'.count ≡ s.count
 
+-- The log is closed: its notes are the order of receipt.
+pub record Writable (s : Store) : Type 0 where
+  pub few : s.count ≤ most_places
+  pub noted : (i : ℕ) → has i (received s) ≡ ltb i s.count
+  pub closed : take s.count s.log ≡ received s
+  pub all : length (received s) ≡ s.count
+
 -- The piece in slot x, the first of its lane, can go from holder v to holder d.
 pub record Handing (rule v d x : ℕ) (s : Store) : Type 0 where
   pub kept : Kept rule s

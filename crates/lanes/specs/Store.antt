@@ -1,7 +1,8 @@
 -- What memory holds: pieces by slot, the lanes of their holders, and the log of receipts.
 -- Definitions only. Assumes nothing.
-use Rattle.std.specs.Prelude.{◌≡◌, List, ℕ, ◌≤◌, ◌<◌, ltb, length, take}
+use Rattle.std.specs.Prelude.{◌≡◌, List, ℕ, ◌+◌, ◌≤◌, ◌<◌, ltb, length, replicate, take}
 use Rattle.table.specs.declared.Piece.{Piece}
+use Rattle.table.specs.Pieces.{no_piece}
 use Rattle.table.specs.Table.{most_places}
 use Rattle.lanes.specs.declared.Store.{Store}
 use Rattle.lanes.specs.Lanes.{most_lanes}
@@ -12,6 +13,18 @@ use Rattle.lanes.specs.Chains.{start, Chain}
 -- as many notes fit in the log
 abbrev pub most_notes : ℕ
 most_notes = 16384
+
+-- before a slot is in use
+unfoldable pub fresh : Store
+fresh = record {
+  pieces = replicate most_places no_piece;
+  next = replicate (most_places + most_lanes) most_places;
+  hints = replicate most_lanes most_places;
+  log = replicate most_notes 0;
+  spare = replicate most_places 0;
+  count = 0;
+  noted = 0;
+}
 
 -- the slots in use, in order of receipt
 abbrev pub received : Store → List ℕ

@@ -1,8 +1,9 @@
 // The log of receipts: a slot's last note is its place in the order of receipt.
-ghost use Rattle.std.specs.Prelude.{◌≡◌, ◌<◌, ◌≤◌, length, take};
-ghost use Rattle.table.specs.Table.{most_places};
+ghost use Rattle.std.specs.Prelude.{◌≡◌, ◌<◌, ◌≤◌, ◌*◌, length, take};
+ghost use Rattle.table.specs.Table.{most_places, lay};
+ghost use Rattle.lanes.specs.Store.{pieces_in};
 ghost use Rattle.lanes.specs.Store.{most_notes};
-ghost use Rattle.lanes.specs.Steps.{Noted, Closable, Closed};
+ghost use Rattle.lanes.specs.Steps.{Noted, Closable, Closed, Writable};
 ghost use Rattle.lanes.specs.Closing.{Listable, Lists};
 
 use super::Store;
@@ -55,5 +56,16 @@ impl Store {
         list_last(&self.log, noted, count, &mut self.spare);
         put_first(&mut self.log, &self.spare, count);
         self.noted = count;
+    }
+
+    // The pieces are written into a table in order of receipt, once the log is closed.
+    pub fn write(&self, table: &mut [u32])
+        requires { Writable self.now × (4 * self.now.count ≤ length table.old) }
+        ensures { table.new ≡ lay (pieces_in self.now) table.old }
+    {
+        for j in 0..self.count {
+            let x = self.log[j] as usize;
+            table::put_piece(table, j + 1, j, self.pieces[x]);
+        }
     }
 }

@@ -16,7 +16,7 @@ use taking::Move;
 
 impl Store {
     // What would still be wanted once whole pieces are handed over. Nothing is moved: a move that is refused leaves all as it was.
-    fn left_over(&self, s: u32, want: u32) -> u32
+    pub fn left_over(&self, s: u32, want: u32) -> u32
         requires { (s < most_lanes) × Leads (start s) self.now }
         ensures { (line : List ℕ) → Chain self.now.next (start s) line → result ≡ remains self.now.pieces want line }
     {
