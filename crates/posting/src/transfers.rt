@@ -28,7 +28,7 @@ impl Posting for Transfer {
         if self.minute < self.age as u32 {
             return Err(Refusal::BeforeTime);
         }
-        let balance = balances::balance_at(head, self.destination);
+        let balance = balances::balance_at(&head, self.destination);
         if (refusal::TOP as u64) < (balance as u64) + (self.weight as u64) {
             return Err(Refusal::Overfull);
         }
