@@ -1,7 +1,7 @@
 -- A motion on a book known to add up: the pieces moved and the next head are together the book after it.
 -- Assumes nothing.
 use Rattle.std.specs.Option.{ok_or}
-use Rattle.std.proofs.Common.{◌≡◌, ◌∙◌, Option, Result, Ok, List, ℕ, ◌+◌, ◌-◌, ◌≤◌, ◌<◌, arith, eqb}
+use Rattle.std.proofs.Common.{◌≡◌, ◌∙◌, Option, Some, Result, Ok, List, ℕ, ◌+◌, ◌-◌, ◌≤◌, ◌<◌, arith, eqb}
 use Rattle.std.proofs.lemmas.Bool.Decides.{nat_tests}
 use Rattle.table.specs.Pieces.{only, held, All}
 use Rattle.table.specs.Closing.{Present}
@@ -85,11 +85,14 @@ module _ (h : Head) (t : List ℕ) (w : Audited h t) (m : Motion) where
         let present : All Present (pieces_of h.pieces t) = all_map (λ q g. let n = holder_bound h.vessels _ g.holder_in k.sound.vessels_fit in omega arith) k.sound.sound in
         grind (arith, k.few, places_fit t p p ep, present)
 
-    module _ (p : ℕ) (ep : p ≡ places_of t) (rule : ℕ) (er : rule ≡ rule_at h.rules m.moves.source) (t' : List ℕ) (o : Option Applied)
-        (moves : Moves p m.moves (taken rule m.moves (pieces_of h.pieces t)) t t' o) where
-      -- it was carried, whatever is answered where it was not
-      module _ (a : Applied) (why : Refusal) (k : Result Applied Refusal) (ek : k ≡ ok_or o why) (ea : k ≡ Ok a) where
-        -- what the next head asks
-        pub move_countable : Countable h m a
-        unfolding places_of applied takes
-        move_countable = grind (arith, nat_tests, born_is, shifts)
+    -- what the next head asks, where there was a place
+    pub countable : (a : Applied) → applied (places_of t) m.moves r ≡ Some a → Countable h m a
+    unfolding places_of applied takes
+    countable a e = grind (arith, nat_tests, born_is, shifts)
+
+    -- it was carried, whatever is answered where it was not
+    pub move_countable : (p : ℕ) → p ≡ places_of t → (rule : ℕ) → rule ≡ rule_at h.rules m.moves.source → (t' : List ℕ) (o : Option Applied)
+        → Moves p m.moves (taken rule m.moves (pieces_of h.pieces t)) t t' o
+        → (a : Applied) (why : Refusal) (z : Result Applied Refusal) → z ≡ ok_or o why → z ≡ Ok a → Countable h m a
+    unfolding takes
+    move_countable p ep rule er t' o moves a why z ez ea = countable a (grind (arith, moves.answer))

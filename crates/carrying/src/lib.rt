@@ -69,22 +69,22 @@ pub fn tip_motion(head: Head, y: Tip) -> Motion
     }
 }
 
-// The head after a motion whose pieces were moved so.
-fn next_head(head: Head, m: Motion, moved: Applied) -> Head
-    requires { Countable head m moved }
-    ensures { result ≡ next_head head m moved }
+// The head goes on: a motion's pieces were moved so.
+pub fn advance(head: &mut Head, m: Motion, moved: Applied)
+    requires { Countable head.old m moved }
+    ensures { head.new ≡ next_head head.old m moved }
 {
-    let mut next = balances::shift(
+    let accepted = head.accepted + m.counts;
+    balances::shift(
         head,
         m.moves.source,
         m.moves.weight - moved.born,
         m.moves.destination,
         m.moves.weight,
     );
-    next.pieces = moved.count as u32;
-    next.last = m.minute;
-    next.accepted = head.accepted + m.counts;
-    next
+    head.pieces = moved.count as u32;
+    head.last = m.minute;
+    head.accepted = accepted;
 }
 
 // The motion, with pieces picked by the rule of its source and with memory lent to work in. Here and in the crates above, head, table and memory are
@@ -103,13 +103,15 @@ pub fn carry(
     let places = table::places(table);
     let from = Holding {
         rule: rules::rule_at(head, m.moves.source),
-        balance: balances::balance_at(head, m.moves.source),
+        balance: balances::balance_at(&head, m.moves.source),
     };
     let moved = moving::move_pieces(table, n, places, from, m.moves, work).ok_or(
         Refusal::TableFull,
     )?;
+    let mut next = head;
+    advance(&mut next, m, moved);
     Ok(Carried {
-        head: next_head(head, m, moved),
+        head: next,
         whole: moved.whole,
         split: moved.split,
         born: moved.born,

@@ -6,38 +6,36 @@ use book::{Head, SCALE};
 
 // The balance of a holder.
 #[tactic(auto, unfolding(book::specs::Head::balance_at))]
-pub fn balance_at(head: Head, holder: u32) -> u32
+pub fn balance_at(head: &Head, holder: u32) -> u32
     requires { holder < most_holders }
-    ensures { result ≡ balance_at head holder }
+    ensures { result ≡ balance_at head.now holder }
 {
     if holder == SCALE {
         return head.scale;
     }
-    let at = holder as usize;
-    head.balances[at]
+    head.balances[holder as usize]
 }
 
-// The head with another balance of a holder.
+// A holder has another balance.
 #[tactic(auto, unfolding(book::specs::Head::with_balance))]
-fn with_balance(head: Head, holder: u32, weight: u32) -> Head
+fn set_balance(head: &mut Head, holder: u32, weight: u32)
     requires { holder < most_holders }
-    ensures { result ≡ with_balance head holder weight }
+    ensures { head.new ≡ with_balance head.old holder weight }
 {
-    let mut next = head;
     if holder == SCALE {
-        next.scale = weight;
-        return next;
+        head.scale = weight;
+        return;
     }
-    let at = holder as usize;
-    next.balances[at] = weight;
-    next
+    head.balances[holder as usize] = weight;
 }
 
-// The head after a holder gave weight and another received some: less, where the rest was born.
-pub fn shift(head: Head, source: u32, given: u32, destination: u32, received: u32) -> Head
-    requires { Shiftable head source given destination received }
-    ensures { result ≡ shifted head source given destination received }
+// A holder gave weight and another received some: less, where the rest was born.
+pub fn shift(head: &mut Head, source: u32, given: u32, destination: u32, received: u32)
+    requires { Shiftable head.old source given destination received }
+    ensures { head.new ≡ shifted head.old source given destination received }
 {
-    let less = with_balance(head, source, balance_at(head, source) - given);
-    with_balance(less, destination, balance_at(less, destination) + received)
+    let left = balance_at(head, source) - given;
+    set_balance(head, source, left);
+    let raised = balance_at(head, destination) + received;
+    set_balance(head, destination, raised);
 }

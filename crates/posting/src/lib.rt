@@ -18,7 +18,7 @@ use moving::Workspace;
 use refusal::Refusal;
 
 mod scale; // scale.rt: lift and tip as postings
-mod transfers; // transfers.rt: a transfer as a posting
+pub mod transfers; // transfers.rt: the checks of a transfer, and a transfer as a posting
 
 // What can be posted to a book: its checks after 1 and 4, and the motion that it is.
 trait Posting: Copy {

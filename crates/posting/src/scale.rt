@@ -57,7 +57,7 @@ impl Posting for Tip {
         if self.minute < head.last {
             return Err(Refusal::ClockBack);
         }
-        let balance = balances::balance_at(head, self.destination);
+        let balance = balances::balance_at(&head, self.destination);
         if (refusal::TOP as u64) < (balance as u64) + (head.scale as u64) {
             return Err(Refusal::Overfull);
         }

@@ -1,3 +1,5 @@
 pub mod RunLaws
+pub mod ByLanes
+pub mod Making
 pub mod RunTheorem
 pub mod NoMovement

@@ -75,7 +75,7 @@ module _ (s : List ℕ) (h₀ : Head) (t₀ : List ℕ) (h : Head) (t : List ℕ
     same_number = ap (λ (z : Transferred). z.number) posts.answer
 
     -- a movement is refused, and ends the run
-    going_stop : (made.number ≡ 0 → ⊥) → Gives all t' (record { number = made.number; index = i; even = even; head = h })
+    pub going_stop : (made.number ≡ 0 → ⊥) → Gives all t' (record { number = made.number; index = i; even = even; head = h })
     going_stop nz = rw (← (here q)) (go o.number same_number (λ u. nz (same_number ∙ u)))
       where
         go : (n : ℕ) → made.number ≡ n → (n ≡ 0 → ⊥)
@@ -85,7 +85,7 @@ module _ (s : List ℕ) (h₀ : Head) (t₀ : List ℕ) (h : Head) (t : List ℕ
 
     -- it is accepted, and the run goes on
     module _ (z : made.number ≡ 0) (one : ℕ) (eo : (one ≡ if_zero (made.split + made.born) 1 0) × (one ≤ 1)) where
-      going_next : Going s h₀ t₀ made.head t' (even + one) (i + 1)
+      pub going_next : Going s h₀ t₀ made.head t' (even + one) (i + 1)
       going_next =
           let known = known_up h t g.audited.sized g.audited.book_adds_up in
           let u = known_after h t known (transfer_at s i) in

@@ -6,6 +6,6 @@ use Rattle.carrying.proofs.carry.Goals as goal
 pub move_pieces-requires : goal.move_pieces-requires
 move_pieces-requires c = search (rules, move_ready, source_holds)
 
-pub next_head-requires : goal.next_head-requires
-next_head-requires c =
+pub advance-requires : goal.advance-requires
+advance-requires c =
     move_countable _ _ c.requires.0 _ c.requires.1 _ c.places-places.ensures _ c.rule_at.ensures _ _ c.move_pieces.ensures _ _ _ c.ok_or.ensures.value c.in_ok-moved.was
