@@ -35,44 +35,45 @@ impl Running {
             && (t.weight > balance || self.lanes.splits(t.source, t.weight))
     }
 
-    /// The piece that a movement adds once whole ones do not fit any more: a part of the next one, or what
-    /// is born.
-    fn rest(&mut self, t: &Transfer, left: u32) -> (Piece, u32) {
-        if let Some(slot) = self.lanes.first(t.source) {
-            return (self.lanes.part(slot, left), 0);
-        }
-        let piece = Piece {
-            holder: t.destination,
-            origin: t.source,
-            birth: t.minute - u32::from(t.age),
-            weight: left,
+    /// The slot of what a movement adds once no piece goes whole any more, which weighs what is left: a part of
+    /// the next piece, or what is born.
+    fn add(&mut self, t: &Transfer, left: u32) -> usize {
+        let piece = match self.lanes.first(t.source) {
+            Some(slot) => self.lanes.part(slot, left),
+            None => {
+                self.head.balances[t.source as usize] += left;
+                Piece {
+                    holder: t.source,
+                    origin: t.source,
+                    birth: t.minute - u32::from(t.age),
+                    weight: left,
+                }
+            }
         };
-        (piece, left)
+        self.lanes.lay(piece)
     }
 
     /// Moves pieces past all checks. Whether that took neither split nor birth.
     fn hand(&mut self, t: &Transfer) -> bool {
-        let (mut left, mut born) = (t.weight, 0);
+        let mut left = t.weight;
+        let mut even = true;
         let mut hint = self.lanes.hint(t.destination);
-        while let Some(slot) = self.lanes.leave(t.source, left) {
+        while left > 0 {
+            let slot = self.lanes.leave(t.source, left).unwrap_or_else(|| {
+                even = false;
+                self.add(t, left)
+            });
             left -= self.lanes.piece(slot).weight;
-            hint = self.lanes.join(hint, t.destination, slot);
-            self.receipts.note(slot);
-        }
-        if left > 0 {
-            let piece;
-            (piece, born) = self.rest(t, left);
-            let slot = self.lanes.lay(piece);
             hint = self.lanes.join(hint, t.destination, slot);
             self.receipts.note(slot);
         }
         self.lanes.set_hint(t.destination, hint);
         self.head.pieces = self.lanes.count() as u32;
-        self.head.balances[t.source as usize] -= t.weight - born;
+        self.head.balances[t.source as usize] -= t.weight;
         self.head.balances[t.destination as usize] += t.weight;
         self.head.last = t.minute;
         self.head.accepted += 1;
-        left == 0
+        even
     }
 
     /// A movement with all its checks. Whether it took neither split nor birth.

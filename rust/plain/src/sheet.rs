@@ -41,12 +41,13 @@ fn check_names(names: &[u8]) -> Result<(), Refusal> {
 /// The movement at an index of a sheet whose layout was checked.
 pub fn movement_at(sheet: &[u8], vessels: u32, index: usize) -> Transfer {
     let at = SHEET_HEADER + NAME_BYTES * vessels as usize + MOVEMENT_BYTES * index;
+    let bytes = &sheet[at..at + MOVEMENT_BYTES];
     Transfer {
-        source: sheet[at].into(),
-        destination: sheet[at + 1].into(),
-        minute: u32_at(sheet, at + 4),
-        weight: u32_at(sheet, at + 8),
-        age: u16_at(sheet, at + 2),
+        source: bytes[0].into(),
+        destination: bytes[1].into(),
+        minute: u32_at(bytes, 4),
+        weight: u32_at(bytes, 8),
+        age: u16_at(bytes, 2),
     }
 }
 
