@@ -85,13 +85,16 @@ fn tables() {
         let of_sheet = (&maker.sheet, pieces);
         run_on(&mut pairs, &mut random, of_sheet, &lengths);
         reached.watch(&maker.sheet, pieces, true);
-        reached.watch(&maker.sheet, pieces - 1, false);
+        if pieces > 1 {
+            reached.watch(&maker.sheet, pieces - 1, false);
+        }
     }
     print("runs, tables", &pairs, &reached);
     for pair in &pairs {
         pair.tally.expect("run", &[0, 1, 11], 1_000);
     }
-    reached.expect(10_000);
+    assert!(reached.full == 24_000 && reached.short > 22_000);
+    reached.expect(15_000);
 }
 
 /// Few vessels with many pieces.
@@ -111,5 +114,6 @@ fn many_pieces() {
         reached.watch(&maker.sheet, maker.pieces(), true);
     }
     print("runs, many pieces", &pairs, &reached);
+    assert!(reached.full == 120 && reached.long > 40 && reached.notes > 1_500_000);
     reached.expect(1_000);
 }

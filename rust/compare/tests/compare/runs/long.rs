@@ -1,7 +1,7 @@
 //! Runs whose pieces move so often that the notes of their receipts are closed up many times.
 
-use super::maker::{to_and_fro, Births, Maker};
-use super::reached::Reached;
+use super::maker::{brimming, to_and_fro, Births, Maker};
+use super::reached::{Reached, NOTES};
 use super::stopped::{stop, Full, NUMBERS};
 use super::{pairs, print, run_all};
 use calls::{MOVEMENTS, PLACES};
@@ -89,7 +89,8 @@ fn every_place_of_the_longest_table() {
     let mut reached = Reached::default();
     for rule in 0..4 {
         let mut sheet = aged_heaviest(&mut random, rule);
-        let (ran, _) = run_all(&mut pairs, &mut random, &sheet.bytes(), 4 * PLACES);
+        let length = [16_384, 16_387, 16_400, 20_003][rule as usize];
+        let (ran, _) = run_all(&mut pairs, &mut random, &sheet.bytes(), length);
         assert_eq!((ran.number, ran.head.pieces), (0, PLACES as u32));
         reached.watch(&sheet, PLACES, false);
         // A place short, the last movement is refused, but not where it takes just what there is.
@@ -102,4 +103,37 @@ fn every_place_of_the_longest_table() {
     }
     print("runs, every place", &pairs, &reached);
     assert!(reached.full == 4 && reached.closed > 1_000);
+}
+
+/// Runs a sheet that passes on a table with just so many places.
+fn run_on_one(pairs: &mut [Pair], random: &mut Random, reached: &mut Reached, maker: &Maker) {
+    let (sheet, pieces) = (&maker.sheet, maker.pieces());
+    let length = 4 * pieces + random.index(4);
+    let (ran, _) = run_all(pairs, random, &sheet.bytes(), length);
+    assert_eq!(ran.number, 0);
+    reached.watch(sheet, pieces, false);
+}
+
+/// A movement that makes as many notes as there is room for, up to two fewer and up to two more; and what
+/// comes behind it.
+#[test]
+fn notes_at_the_brim() {
+    let mut pairs = pairs();
+    let mut random = Random::new(117);
+    let mut reached = Reached::default();
+    for round in 0..120 {
+        let (rule, notes) = (round % 4, NOTES - 2 + round as usize / 4 % 5);
+        let mut maker = Maker::new(&mut random, rule, 2).light(Births::Few);
+        let at = brimming(&mut random, &mut maker, notes);
+        let mut brim = Reached::default();
+        run_on_one(&mut pairs, &mut random, &mut brim, &maker);
+        assert_eq!(brim.notes, notes as u64);
+        assert_eq!(brim.closed, u64::from(notes > NOTES));
+        for weight in [maker.balance(at) - 1, 1, 2] {
+            maker.moves(&mut random, at, 1 - at, weight);
+        }
+        run_on_one(&mut pairs, &mut random, &mut reached, &maker);
+    }
+    print("runs, at the brim", &pairs, &reached);
+    assert!(reached.full == 120 && reached.closed == 120);
 }

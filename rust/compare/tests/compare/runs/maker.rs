@@ -211,3 +211,35 @@ pub fn to_and_fro(random: &mut Random, maker: &mut Maker, pieces: u32, times: u3
         }
     }
 }
+
+/// Hundreds of pieces in one vessel, moved in such numbers that, when next they all move and something is
+/// born, as many receipts were noted as this; and then they do so. The vessel that has them then.
+pub fn brimming(random: &mut Random, maker: &mut Maker, notes: usize) -> u32 {
+    let pieces = random.from_to(300, 900);
+    for _ in 0..pieces {
+        let weight = random.from_to(2, 9);
+        maker.moves(random, 1, 0, weight);
+    }
+    let mut missing = notes - 2 * pieces as usize - 1;
+    let mut at = 0;
+    while missing >= pieces as usize + 3 {
+        let all = maker.balance(at);
+        maker.moves(random, at, 1 - at, all);
+        at = 1 - at;
+        missing -= pieces as usize;
+    }
+    // Two notes are of a piece there and back; a gram there and back is a piece more, too.
+    if missing % 2 == 1 {
+        maker.moves(random, at, 1 - at, 1);
+        maker.moves(random, 1 - at, at, 1);
+        missing -= 3;
+    }
+    for _ in 0..missing / 2 {
+        let first = picked(&maker.book.pieces(), at, maker.sheet.rule)[0];
+        maker.moves(random, at, 1 - at, first.weight);
+        maker.moves(random, 1 - at, at, first.weight);
+    }
+    let more = maker.balance(at) + 1;
+    maker.moves(random, at, 1 - at, more);
+    1 - at
+}

@@ -5,7 +5,7 @@ use calls::{Piece, Refusal, Transfer};
 use second::{Book, Moved, Sheet};
 
 /// The notes of receipts for which a run has room, before it leaves out those that later ones follow.
-const NOTES: usize = 4 * calls::PLACES;
+pub const NOTES: usize = 4 * calls::PLACES;
 
 /// Counts over all runs that were watched.
 #[derive(Debug, Default)]
