@@ -4,17 +4,21 @@
 use crate::book::{Full, Timed};
 use crate::clock::best;
 use calls::{Engine, Head, Refusal, Reported, Transfer, PLACES, VESSELS};
-use compare::{aged_day, heaviest, working_day, Random};
-use second::{Book, Second};
+use compare::Random;
+use second::{Book, Second, Sheet};
 
 /// A row of the table: what is timed, and how to time it.
 type Row = (&'static str, fn(&Loads, Timed) -> f64);
 
 /// The rows of the table.
-pub const ROWS: [Row; 13] = [
+pub const ROWS: [Row; 17] = [
     ("heaviest sheet, 4,096 movements", Loads::heaviest),
+    ("the same, ages in any order", Loads::aged_heaviest),
     ("bakery's day, 4,096 movements", Loads::day),
     ("the same day, ages in any order", Loads::aged_day),
+    ("random pairs, 4,096 movements", Loads::random_pairs),
+    ("two big vessels, half to and fro", Loads::two_big),
+    ("one vessel fed by the gram, any age", Loads::fed),
     ("light transfer, a part of one lot", Loads::light),
     ("the same, by lift and tip", Loads::light_divided),
     ("heavy transfer, 4,096 pieces whole", Loads::heavy),
@@ -41,9 +45,14 @@ pub fn writing() -> f64 {
 /// The sheets and books of one rule.
 pub struct Loads {
     heaviest: Vec<u8>,
+    /// The same movements with flour of any age.
+    aged_heaviest: Vec<u8>,
     day: Vec<u8>,
     /// The same movements with flour of any age.
     aged_day: Vec<u8>,
+    random_pairs: Vec<u8>,
+    two_big: Vec<u8>,
+    fed_by_the_gram: Vec<u8>,
     /// 4,000 pieces in 64 vessels.
     nearly_full: Full,
     /// 4,096 pieces in 64 vessels.
@@ -75,10 +84,16 @@ impl Loads {
     pub fn new(rule: u32) -> Loads {
         const SEED: u64 = 51;
         let mut random = Random::new(SEED);
+        let bytes =
+            |made: fn(&mut Random, u32) -> Sheet| made(&mut Random::new(SEED), rule).bytes();
         Loads {
-            heaviest: heaviest(rule).bytes(),
-            day: working_day(&mut random, rule).bytes(),
-            aged_day: aged_day(&mut Random::new(SEED), rule).bytes(),
+            heaviest: compare::heaviest(rule).bytes(),
+            aged_heaviest: bytes(compare::aged_heaviest),
+            day: compare::working_day(&mut random, rule).bytes(),
+            aged_day: bytes(compare::aged_day),
+            random_pairs: bytes(compare::random_pairs),
+            two_big: bytes(compare::two_big),
+            fed_by_the_gram: bytes(compare::fed_by_the_gram),
             nearly_full: Full::of(&mut random, rule, PLACES - LIGHT, VESSELS as u32),
             full: Full::of(&mut random, rule, PLACES, VESSELS as u32),
             heap: Full::of(&mut random, rule, PLACES, 1),
@@ -106,12 +121,28 @@ impl Loads {
         run(engine, &self.heaviest)
     }
 
+    fn aged_heaviest(&self, engine: Timed) -> f64 {
+        run(engine, &self.aged_heaviest)
+    }
+
     fn day(&self, engine: Timed) -> f64 {
         run(engine, &self.day)
     }
 
     fn aged_day(&self, engine: Timed) -> f64 {
         run(engine, &self.aged_day)
+    }
+
+    fn random_pairs(&self, engine: Timed) -> f64 {
+        run(engine, &self.random_pairs)
+    }
+
+    fn two_big(&self, engine: Timed) -> f64 {
+        run(engine, &self.two_big)
+    }
+
+    fn fed(&self, engine: Timed) -> f64 {
+        run(engine, &self.fed_by_the_gram)
     }
 
     /// No vessel both gives and receives, so that each transfer splits a lot under every rule.

@@ -6,6 +6,7 @@ mod books;
 mod foul;
 #[cfg(feature = "library")]
 mod library;
+mod long;
 mod make;
 mod pair;
 mod random;
@@ -18,12 +19,15 @@ pub use books::{balance_of, book, held_by, loaded_book, mixed_rules, room};
 pub use foul::{foul_book, FOUL_CLAUSES};
 #[cfg(feature = "library")]
 pub use library::Library;
+pub use long::{
+    aged_day, aged_heaviest, fed_by_the_gram, heaviest, random_pairs, two_big, working_day,
+};
 pub use make::{
     call_list, lift_for, near, report_room, tip_for, transfer_for, with_settings, Call,
 };
 pub use pair::{tipped, Pair};
 pub use random::Random;
-pub use sheets::{aged_day, damage, heaviest, names, sheet, working_day};
+pub use sheets::{damage, names, sheet};
 pub use stirs::{shares, stirred, Share, Stirs};
 pub use tally::Tally;
 

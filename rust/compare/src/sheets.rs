@@ -2,7 +2,7 @@
 
 use crate::make::{near, weighed_transfer};
 use crate::Random;
-use calls::{Transfer, MOVEMENTS, MOVEMENT_BYTES, NAME_BYTES, SHEET_HEADER, VESSELS};
+use calls::{MOVEMENT_BYTES, NAME_BYTES, SHEET_HEADER, VESSELS};
 use second::{Sheet, WeighBook};
 
 /// Well-formed names that differ, 8 bytes each.
@@ -43,62 +43,6 @@ pub fn sheet(random: &mut Random, most: u32) -> Sheet {
         if !refused || vessels == 1 || !calm && random.once_in(8) {
             sheet.movements.push(movement);
         }
-    }
-    sheet
-}
-
-/// The heaviest sheet: two vessels, all at minute 0, 1 gram forth, 2 back, 3 forth and so on.
-pub fn heaviest(rule: u32) -> Sheet {
-    let movement = |i: u32| Transfer::new([i % 2, 1 - i % 2, 0, i + 1]);
-    Sheet {
-        rule,
-        names: vec![*b"A\0\0\0\0\0\0\0", *b"B\0\0\0\0\0\0\0"],
-        movements: (0..MOVEMENTS as u32).map(movement).collect(),
-    }
-}
-
-/// A bakery's day: 8 suppliers, 16 silos, 16 leavens and 24 mixers. Deliveries of whole lots, then
-/// mostly parts of them, and now and then all that is left of a leaven.
-pub fn working_day(random: &mut Random, rule: u32) -> Sheet {
-    const SUPPLIERS: u32 = 0;
-    const SILOS: u32 = 8;
-    const LEAVENS: u32 = 24;
-    const MIXERS: u32 = 40;
-    let mut book = WeighBook::new(VESSELS as u32);
-    let mut movements = Vec::new();
-    while movements.len() < MOVEMENTS {
-        let supplier = SUPPLIERS + random.below(8);
-        let silo = SILOS + random.below(16);
-        let leaven = LEAVENS + random.below(16);
-        let mixer = MIXERS + random.below(24);
-        let left = book.weights[leaven as usize] as u32;
-        let (source, destination, weight) = match random.below(40) {
-            0..=3 => (supplier, silo, random.from_to(20_000, 60_000)),
-            4..=14 => (silo, leaven, random.from_to(200, 2_000)),
-            15..=26 => (silo, mixer, random.from_to(500, 4_000)),
-            27..=37 => (leaven, mixer, random.from_to(100, 1_500)),
-            38 => (leaven, silo, random.from_to(50, 300)),
-            _ => (leaven, mixer, left),
-        };
-        let minute = movements.len() as u32 / 3;
-        let movement = Transfer::new([source, destination, minute, weight]);
-        if book.feed(movement) == 0 {
-            movements.push(movement);
-        }
-    }
-    Sheet {
-        rule,
-        names: names(random, VESSELS as u32),
-        movements,
-    }
-}
-
-/// A bakery's day with flour of any age: the same movements, and births in no order.
-pub fn aged_day(random: &mut Random, rule: u32) -> Sheet {
-    let mut sheet = working_day(random, rule);
-    for movement in &mut sheet.movements {
-        let oldest = movement.minute.min(u16::MAX.into());
-        movement.age = random.from_to(0, oldest) as u16;
     }
     sheet
 }

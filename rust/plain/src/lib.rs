@@ -1,10 +1,12 @@
-//! The flat-table algorithm of the proved library in ordinary Rust, with the same checks and the
-//! same memory: no heap, scratch on the stack. The benchmarks measure the library against it.
+//! The proved library's algorithms in ordinary Rust, with the same checks and the same memory: a flat table
+//! for single calls, lanes for a run, no heap, scratch on the stack. The benchmarks measure the library
+//! against it.
 
 #![no_std]
 
 mod book;
 mod report;
+mod run;
 mod sheet;
 mod stir;
 mod tip;
@@ -109,7 +111,7 @@ impl Engine for Plain {
     }
 
     fn run(&self, sheet: &[u8], table: &mut [u32]) -> Ran {
-        sheet::run(sheet, table)
+        run::run(sheet, table)
     }
 }
 

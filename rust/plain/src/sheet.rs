@@ -1,10 +1,9 @@
 //! The sheet by offsets into its bytes.
 
 use crate::book;
-use crate::transfer::{transfer_known, Scratch};
 use calls::{
-    Head, Movement, Ran, Reading, Refusal, Transfer, MOVEMENTS, MOVEMENT_BYTES, MOVEMENT_NUMBERS,
-    NAME_BYTES, SHEET_HEADER,
+    Movement, Reading, Refusal, Transfer, MOVEMENTS, MOVEMENT_BYTES, MOVEMENT_NUMBERS, NAME_BYTES,
+    SHEET_HEADER,
 };
 
 const MARK: &[u8; 4] = b"PROV";
@@ -40,18 +39,19 @@ fn check_names(names: &[u8]) -> Result<(), Refusal> {
 }
 
 /// The movement at an index of a sheet whose layout was checked.
-fn movement_at(sheet: &[u8], vessels: u32, index: usize) -> Transfer {
+pub fn movement_at(sheet: &[u8], vessels: u32, index: usize) -> Transfer {
     let at = SHEET_HEADER + NAME_BYTES * vessels as usize + MOVEMENT_BYTES * index;
+    let bytes = &sheet[at..at + MOVEMENT_BYTES];
     Transfer {
-        source: sheet[at].into(),
-        destination: sheet[at + 1].into(),
-        minute: u32_at(sheet, at + 4),
-        weight: u32_at(sheet, at + 8),
-        age: u16_at(sheet, at + 2),
+        source: bytes[0].into(),
+        destination: bytes[1].into(),
+        minute: u32_at(bytes, 4),
+        weight: u32_at(bytes, 8),
+        age: u16_at(bytes, 2),
     }
 }
 
-fn check(sheet: &[u8]) -> Result<Reading, Refusal> {
+pub fn check(sheet: &[u8]) -> Result<Reading, Refusal> {
     if sheet.len() < SHEET_HEADER || sheet[..4] != *MARK {
         return Err(Refusal::NoSheet);
     }
@@ -166,48 +166,4 @@ pub fn write(
         put_u32(out, at + 8, weight);
     }
     Ok(())
-}
-
-/// The sheet's reading and a fresh head, once the table was looked at.
-fn start(sheet: &[u8], table: &[u32]) -> Result<(Reading, Head), Refusal> {
-    let reading = check(sheet)?;
-    if table.len() < 4 {
-        return Err(Refusal::TableShort);
-    }
-    Ok((reading, book::open(reading.rule, reading.vessels)?))
-}
-
-pub fn run(sheet: &[u8], table: &mut [u32]) -> Ran {
-    let mut answer = Ran {
-        number: 0,
-        index: 0,
-        even: 0,
-        head: Head::ZERO,
-    };
-    let reading = match start(sheet, table) {
-        Ok((reading, head)) => {
-            answer.head = head;
-            reading
-        }
-        Err(refusal) => {
-            answer.number = refusal.number();
-            return answer;
-        }
-    };
-    let mut scratch = Scratch::new();
-    while answer.index < reading.movements {
-        let movement = movement_at(sheet, reading.vessels, answer.index as usize);
-        match transfer_known(answer.head, table, &movement, &mut scratch) {
-            Ok(done) => {
-                answer.head = done.head;
-                answer.even += u32::from(done.even());
-            }
-            Err(refusal) => {
-                answer.number = refusal.number();
-                return answer;
-            }
-        }
-        answer.index += 1;
-    }
-    answer
 }

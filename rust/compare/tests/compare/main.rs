@@ -15,6 +15,7 @@ mod order;
 mod rule_books;
 mod rule_order;
 mod rules;
+mod runs;
 mod scale;
 mod scale_beside;
 mod scale_books;
