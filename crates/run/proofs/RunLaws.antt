@@ -14,8 +14,7 @@ use Rattle.book.specs.Memory as Memory
 use Rattle.book.proofs.Memory.{refused_memory}
 use Rattle.book.proofs.Known.{known_up}
 use Rattle.carrying.specs.Carrying.{Audited}
-use Rattle.carrying.specs.declared.Carried.{Carried}
-use Rattle.posting.specs.Posting.{Posts, refused_with, transferred}
+use Rattle.posting.specs.Posting.{Posts}
 use Rattle.book.proofs.HeadLaws.{openable}
 use Rattle.book.proofs.After.{known_after, length_after, fresh_known}
 use Rattle.run.specs.declared.Ran.{Ran}
@@ -23,7 +22,6 @@ use Rattle.sheet.specs.Answers.{header_numbers}
 use Rattle.fields.specs.Movements.{entry_size}
 use Rattle.fields.specs.Layout.{entries_start}
 use Rattle.sheet.specs.Sheet.{rule_of, vessels_of, movements_of, read_number}
-use Rattle.std.specs.Prelude.{Result, Ok, Err}
 use Rattle.refusal.specs.declared.Refusal.{Refusal}
 use Rattle.refusal.specs.Refusals.{number_of}
 use Rattle.refusal.proofs.Refusals.{some_number}
@@ -51,12 +49,11 @@ even_said h t x e = go (Memory.number_of h t (post x)) e
     go zero e = refl
     go (suc n) e = absurd (omega arith)
 
--- Where a run stands before movement i: so many were even, the book is known, and going on ends as it should.
+-- Where a run stands before movement i, with this table: so many were even, the book is known, and going on ends as it should.
 pub record Going (s : List ℕ) (h₀ : Head) (t₀ : List ℕ) (h : Head) (t : List ℕ) (even i : ℕ) : Type 0 where
   pub some_even : even ≤ i
   pub audited : Audited h t
   pub left : run_from i even h t (drop i (transfers_of s)) ≡ run_from 0 0 h₀ t₀ (transfers_of s)
-  pub table_length : length t ≡ length t₀
 
 module _ (s : List ℕ) (h₀ : Head) (t₀ : List ℕ) (h : Head) (t : List ℕ) (even i : ℕ) (g : Going s h₀ t₀ h t even i)
     (header : Header) (told : header ≡ header_numbers s) where
@@ -100,16 +97,7 @@ module _ (s : List ℕ) (h₀ : Head) (t₀ : List ℕ) (h : Head) (t : List ℕ
               sized = rw posts.answer u.sized;
             };
             left = rw (add-one, es, posts.answer, posts.table) (rw (n, add-one) at (here q));
-            table_length = rw (posts.table, v) g.table_length;
           }
-
-  -- the two arms of a movement
-  module _ (t' : List ℕ) (q : i < header.movements) (r : Result Carried Refusal) (posts : Posts h (post (transfer_at s i)) t t' (transferred h r)) where
-    pub going_refused : (why : Refusal) → r ≡ Err why → (n : ℕ) → n ≡ number_of why → Gives all t' (record { number = n; index = i; even = even; head = h })
-    going_refused why e n en = rw en (going_stop (refused_with h (number_of why)) t' q (rw e at posts) (some_number why))
-
-    pub going_on : (c : Carried) → r ≡ Ok c → (one : ℕ) → (one ≡ if_zero (c.split + c.born) 1 0) × (one ≤ 1) → Going s h₀ t₀ c.head t' (even + one) (i + 1)
-    going_on c e one eo = going_next (transferred h (Ok c)) t' q (rw e at posts) refl one eo
 
   -- all are made
   pub going_end : i ≡ header.movements → Gives all t (record { number = 0; index = header.movements; even = even; head = h })

@@ -9,8 +9,8 @@ returns-in-Err c = search (rules, run_refused, c.in-Err.ensures)
 pub empty_head-fresh-requires : goal.empty_head-fresh-requires
 empty_head-fresh-requires c = few_vessels _ _ _ c.in-Ok.ensures _ c.header-header.ensures.0
 
-pub make_all-requires : goal.make_all-requires
-make_all-requires c = run_ready _ _ _ c.in-Ok.ensures _ c.header-header.ensures.0 _ c.empty_head-fresh.ensures
+pub run_known-requires : goal.run_known-requires
+run_known-requires c = (run_ready _ _ _ c.in-Ok.ensures _ c.header-header.ensures.0 _ c.empty_head-fresh.ensures, rw c.empty_head-fresh.ensures)
 
 pub returns-in-Ok : goal.returns-in-Ok
-returns-in-Ok c = run_whole _ _ _ c.in-Ok.ensures _ c.header-header.ensures.0 _ c.empty_head-fresh.ensures _ _ c.make_all.ensures
+returns-in-Ok c = run_whole _ _ _ c.in-Ok.ensures _ c.header-header.ensures.0 _ c.empty_head-fresh.ensures _ _ c.run_known.ensures
