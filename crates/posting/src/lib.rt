@@ -87,20 +87,6 @@ fn transferred(head: Head, posted: Result<Carried, Refusal>) -> Transferred
     }
 }
 
-// A transfer on a book that is known to add up, with memory lent to work in.
-#[tactic(auto, using(crate::proofs::Posted::transfer_known_posts))]
-pub fn transfer_known(
-    head: Head,
-    table: &mut [u32],
-    x: Transfer,
-    work: &mut Workspace,
-) -> Result<Carried, Refusal>
-    requires { Audited head table.old }
-    ensures { Posts head (post x) table.old table.new (transferred head result) }
-{
-    post_known(head, table, x, work)
-}
-
 // A transfer of weight from source to destination at a minute, with the age of what is born.
 #[tactic(auto, using(crate::proofs::Posted::transfer_posts))]
 pub fn transfer(head: Head, table: &mut [u32], x: Transfer) -> Transferred

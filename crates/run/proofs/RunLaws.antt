@@ -49,7 +49,7 @@ even_said h t x e = go (Memory.number_of h t (post x)) e
     go zero e = refl
     go (suc n) e = absurd (omega arith)
 
--- Where a run stands before movement i: so many were even, the book is known, and going on ends as it should.
+-- Where a run stands before movement i, with this table: so many were even, the book is known, and going on ends as it should.
 pub record Going (s : List ℕ) (h₀ : Head) (t₀ : List ℕ) (h : Head) (t : List ℕ) (even i : ℕ) : Type 0 where
   pub some_even : even ≤ i
   pub audited : Audited h t
