@@ -1,6 +1,6 @@
 -- Lanes as pieces move. A whole piece that is handed over leaves the front of its source's lane and joins that of its destination (`hop`); a new slot joins one lane
 -- (`new_slot`); a piece that is reweighed stays where it is (`reweighed`). All other lanes are as they were. The idea: in the first two one slot is received last, and the pieces in all
--- other slots are as they were, so lanes are those of the other slots but where that slot joins; a hint where it joins may be taken from the lane as it was (`hinted`).
+-- other slots are as they were, so lanes are those of the other slots but where that slot joins.
 -- Assumes nothing.
 use Rattle.std.proofs.Common.{◌≡◌, refl, sym, subst, ap, ◌∙◌, ◌≢◌, true, false, cond, List, [], ◌∷◌, ◌++◌, ℕ, ◌<◌, length, set, length-append, eqb, arith, get_or-set_same, get_or-set_other, eqb-true, eq-eqb, ne_eqb, true≢false, ⊎_elim, append_assoc}
 use Rattle.std.proofs.lemmas.Bool.{cases_eq}
@@ -11,7 +11,7 @@ use Rattle.table.specs.Pieces.{no_piece, of_weight, hand_to}
 use Rattle.lanes.specs.Order.{at_slot, pieces_at, ahead, join, lane}
 use Rattle.lanes.specs.Notes.{has, without, Once}
 use Rattle.lanes.proofs.Notes.{has_append, Alone, alone, once_end, once_without}
-use Rattle.lanes.proofs.Order.{First, picks_first, ranks, joins, not_ours, behind_the_hint, same_lane}
+use Rattle.lanes.proofs.Order.{First, picks_first, ranks, joins, not_ours, same_lane}
 
 pub pieces_append : (ps : List Piece) (q k : List ℕ) → pieces_at ps (q ++ k) ≡ pieces_at ps q ++ pieces_at ps k
 pieces_append ps q k = map-append (at_slot ps) q k
@@ -37,12 +37,6 @@ module _ (ps ps' : List Piece) (x : ℕ) (same : (i : ℕ) → i ≢ x → at_sl
   lane_behind rule q n v =
       rw (← (lane_kept rule q n v)) (joins (ahead rule ps') (λ i. eqb (at_slot ps' i).holder v) (ranks rule ps') q x)
 
-  -- a hint may be taken from the lane as it was
-  pub hinted : (rule : ℕ) (q : List ℕ) → has x q ≡ false → (v : ℕ) (b : List ℕ) (h : ℕ) (a : List ℕ) → lane rule ps v q ≡ b ++ (h ∷ a) → ahead rule ps' h x ≡ true
-      → join (ahead rule ps') x (lane rule ps v q) ≡ b ++ (h ∷ join (ahead rule ps') x a)
-  hinted rule q n v b h a e u =
-      rw e (behind_the_hint (ahead rule ps') (ranks rule ps') (λ i. eqb (at_slot ps' i).holder v) q b h a x (lane_kept rule q n v ∙ e) u)
-
   pub pieces_behind : (q : List ℕ) → has x q ≡ false → pieces_at ps' (q ++ (x ∷ [])) ≡ pieces_at ps q ++ (at_slot ps' x ∷ [])
   pieces_behind q n = pieces_append ps' q (x ∷ []) ∙ ap (λ (l : List Piece). l ++ (at_slot ps' x ∷ [])) (pieces_kept q n)
 
@@ -66,7 +60,6 @@ pub record Hop (rule : ℕ) (ps ps' : List Piece) (r r' : List ℕ) (s d x : ℕ
   pub first : First rule ps s r x l
   pub from : lane rule ps' s r' ≡ l
   pub to : lane rule ps' d r' ≡ join (ahead rule ps') x (lane rule ps d r)
-  pub hinted : (b : List ℕ) (h : ℕ) (a : List ℕ) → lane rule ps d r ≡ b ++ (h ∷ a) → ahead rule ps' h x ≡ true → lane rule ps' d r' ≡ b ++ (h ∷ join (ahead rule ps') x a)
   pub others : (v : ℕ) → v ≢ s → v ≢ d → lane rule ps' v r' ≡ lane rule ps v r
   pub pieces : pieces_at ps' r' ≡ pieces_at ps first.before ++ (pieces_at ps first.after ++ (hand_to d (at_slot ps x) ∷ []))
   pub as_many : length r' ≡ length r
@@ -80,7 +73,6 @@ hop rule ps r s d x l once apart h e = record {
   first = f;
   from = behind s ∙ rw (ne_eqb d s (λ k. apart (sym k))) f.left;
   to = to;
-  hinted = λ c i k q u. to ∙ rw (without_it d apart) (hinted ps ps' x kept rule (b ++ a) n d c i k (sym (without_it d apart) ∙ q) u);
   others = λ v u w. behind v ∙ rw (ne_eqb d v (λ k. w (sym k)), without_it v (λ k. u (sym k))) refl;
   pieces = rw (w, pieces_behind ps ps' x kept (b ++ a) n, pieces_append ps b a, at_same ps x p h) (append_assoc (pieces_at ps b) (pieces_at ps a) (p ∷ []));
   as_many = rw w (simp length-append (omega (arith, simp length-append at (ap length f.lies))));
@@ -128,7 +120,6 @@ hop rule ps r s d x l once apart h e = record {
 -- Slot n is new, and holds the piece p of holder d.
 pub record NewSlot (rule : ℕ) (ps ps' : List Piece) (r r' : List ℕ) (n d : ℕ) (p : Piece) : Type 0 where
   pub to : lane rule ps' d r' ≡ join (ahead rule ps') n (lane rule ps d r)
-  pub hinted : (b : List ℕ) (h : ℕ) (a : List ℕ) → lane rule ps d r ≡ b ++ (h ∷ a) → ahead rule ps' h n ≡ true → lane rule ps' d r' ≡ b ++ (h ∷ join (ahead rule ps') n a)
   pub others : (v : ℕ) → v ≢ d → lane rule ps' v r' ≡ lane rule ps v r
   pub pieces : pieces_at ps' r' ≡ pieces_at ps r ++ (p ∷ [])
 
@@ -136,7 +127,6 @@ pub new_slot : (rule : ℕ) (ps : List Piece) (r : List ℕ) (n d : ℕ) (p : Pi
     → NewSlot rule ps (set ps n p) r (r ++ (n ∷ [])) n d p
 new_slot rule ps r n d p none h e = record {
   to = to;
-  hinted = λ b i a q u. to ∙ hinted ps (set ps n p) n (at_other ps n p) rule r none d b i a q u;
   others = λ v u. behind v ∙ rw (ne_eqb p.holder v (λ k. u (sym k ∙ e))) refl;
   pieces = rw (at_same ps n p h) at (pieces_behind ps (set ps n p) n (at_other ps n p) r none);
 }

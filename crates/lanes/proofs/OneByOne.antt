@@ -39,7 +39,6 @@ last_of x r = without x r ++ (x ∷ [])
 pub record Cut (rule : ℕ) (ps ps' : List Piece) (r r' : List ℕ) (s d k want : ℕ) : Type 0 where
   pub moves : (n : ℕ) → move_up_to (select (wins rule) s) d (suc n) want (pieces_at ps r) ≡ record { pieces = pieces_at ps' r'; whole = 0; split = 1; missing = 0 }
   pub to : lane rule ps' d r' ≡ join (ahead rule ps') k (lane rule ps d r)
-  pub hinted : (b : List ℕ) (h : ℕ) (a : List ℕ) → lane rule ps d r ≡ b ++ (h ∷ a) → ahead rule ps' h k ≡ true → lane rule ps' d r' ≡ b ++ (h ∷ join (ahead rule ps') k a)
   pub others : (v : ℕ) → v ≢ d → lane rule ps' v r' ≡ lane rule ps v r
 
 module _ (rule : ℕ) (ps : List Piece) (r : List ℕ) (s d : ℕ) where
@@ -72,7 +71,6 @@ module _ (rule : ℕ) (ps : List Piece) (r : List ℕ) (s d : ℕ) where
           ∙ ap (λ (qs : List Piece). qs ++ (hand_to d (of_weight want (at_slot ps x)) ∷ [])) less.pieces
           ∙ append_assoc (pieces_at ps f.before) (of_weight ((at_slot ps x).weight - want) (at_slot ps x) ∷ pieces_at ps f.after) (hand_to d (of_weight want (at_slot ps x)) ∷ []))));
       to = slot.to ∙ ap (join (ahead rule (cut_off d x k want ps)) k) (less.lanes d);
-      hinted = λ b h a q u. slot.hinted b h a (less.lanes d ∙ q) u;
       others = λ v u. slot.others v u ∙ less.lanes v;
     }
       where

@@ -3,7 +3,7 @@
 -- Assumes nothing.
 use Rattle.std.specs.Option.{ok_or}
 use Rattle.std.specs.Result.{IsErrAnd}
-use Rattle.std.proofs.Common.{◌≡◌, refl, sym, ap, ◌∙◌, Bool, true, false, cond, Option, None, Some, List, ◌++◌, ℕ, ◌*◌, ◌≤◌, arith, length, drop, length-append, length-drop}
+use Rattle.std.proofs.Common.{◌≡◌, refl, sym, ap, ◌∙◌, Bool, true, false, cond, Option, None, Some, List, ℕ, ◌*◌, ◌≤◌, arith, length, drop}
 use Rattle.std.proofs.lemmas.Bool.Decides.{nat_tests}
 use Rattle.std.specs.Prelude.{Result, Ok, Err}
 use Rattle.refusal.specs.declared.Refusal.{Refusal}
@@ -11,9 +11,8 @@ use Rattle.refusal.specs.declared.Refusal.TheVariants.{TableFull}
 use Rattle.refusal.specs.Numbers.{first}
 use Rattle.refusal.specs.Refusals.{number_of}
 use Rattle.refusal.proofs.Refusals.{some_number}
-use Rattle.table.specs.declared.Piece.{Piece}
-use Rattle.table.specs.Table.{pieces_of, places_of, flat, lay}
-use Rattle.table.proofs.Table.{quad_is, length_flat, pieces_over, rest_over, same_behind, places_fit}
+use Rattle.table.specs.Table.{pieces_of, places_of, lay}
+use Rattle.table.proofs.Table.{pieces_over, places_fit}
 use Rattle.taking.specs.Taken.{Taken}
 use Rattle.taking.specs.Taking.{handed}
 use Rattle.moving.specs.declared.Applied.{Applied}
@@ -34,14 +33,8 @@ use Rattle.carrying.specs.Carrying.{Audited, Carriable, Countable, next_head, co
 use Rattle.carrying.proofs.Next.{work_known, vessels_fit, countable}
 use Rattle.posting.specs.Posting.{transferred, Posts}
 use Rattle.posting.proofs.Posted.{transfer_known_posts}
+use Rattle.lanes.proofs.Laid.{lay_twice, length_lay}
 use Rattle.run.specs.ByLanes.{written, InLanes, Steps}
-
--- pieces are written over those that were there before, no more of them
-lay_over : (ps qs : List Piece) (t : List ℕ) → length ps ≤ length qs → lay qs (lay ps t) ≡ lay qs t
-lay_over ps qs t few = ap (λ (l : List ℕ). flat qs ++ l) (same_behind (length ps) (length qs) t (lay ps t) few (rest_over (length ps) ps (drop (4 * length ps) t) refl))
-
-length_lay : (ps : List Piece) (t : List ℕ) → 4 * length ps ≤ length t → length (lay ps t) ≡ length t
-length_lay ps t room = simp (length-append, length_flat, ← quad_is, length-drop) (omega arith)
 
 -- the answer is a refusal, passed on by `?`
 is_refusal : (q : Result Applied Refusal) (why : Refusal) → IsErrAnd q (λ (other : Refusal). other ≡ why) → q ≡ Err why
@@ -117,7 +110,7 @@ module _ (h : Head) (c : Contents) (t : List ℕ) (w : Audited h (written c t)) 
         where
           go : (b : Bool) → lay (cond b c.pieces (handed m.moves r)) t ≡ cond b table (lay (handed m.moves r) table)
           go true = refl
-          go false = sym (lay_over c.pieces (handed m.moves r) t no_fewer)
+          go false = sym (lay_twice c.pieces (handed m.moves r) t no_fewer)
 
       carried : Carries h m table (written c' t) (concluded h m o)
       carried = record { answer = ap (concluded h m) answer_is; table = table_is }
