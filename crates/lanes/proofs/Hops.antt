@@ -11,7 +11,7 @@ use Rattle.table.specs.Pieces.{no_piece, of_weight, hand_to}
 use Rattle.lanes.specs.Order.{at_slot, pieces_at, ahead, join, lane}
 use Rattle.lanes.specs.Notes.{has, without, Once}
 use Rattle.lanes.proofs.Notes.{has_append, Alone, alone, once_end, once_without}
-use Rattle.lanes.proofs.Order.{First, picks_first, ranks, joins, not_ours, same_lane}
+use Rattle.lanes.proofs.Order.{First, first_picked, ranks, joins, not_ours, same_lane}
 
 pub pieces_append : (ps : List Piece) (q k : List ℕ) → pieces_at ps (q ++ k) ≡ pieces_at ps q ++ pieces_at ps k
 pieces_append ps q k = map-append (at_slot ps) q k
@@ -87,7 +87,7 @@ hop rule ps r s d x l once apart h e = record {
     ps' = set ps x p
 
     f : First rule ps s r x l
-    f = picks_first rule ps s r x l e
+    f = first_picked rule ps s r x l e
 
     b : List ℕ
     b = f.before

@@ -18,7 +18,7 @@ use Rattle.lanes.specs.Order.{at_slot, pieces_at, ahead, join, lane}
 use Rattle.lanes.specs.Walk.{after, Goes}
 use Rattle.lanes.specs.Moving.{cut_off}
 use Rattle.lanes.specs.Notes.{has, without, Once}
-use Rattle.lanes.proofs.Order.{First, picks_none, picks_first}
+use Rattle.lanes.proofs.Order.{First, none_picked, first_picked}
 use Rattle.lanes.proofs.Hops.{hop, NewSlot, new_slot, Reweighed, reweighed}
 use Rattle.lanes.proofs.Walk.{few_in_lane}
 
@@ -50,7 +50,7 @@ module _ (rule : ℕ) (ps : List Piece) (r : List ℕ) (s d : ℕ) where
     where
       go : (c : Bool) → move_next (select (wins rule) s) (move_up_to (select (wins rule) s) d n) d want (pieces_at ps r) c ≡ stopped want (pieces_at ps r)
       go true = refl
-      go false = rw (picks_none rule ps s r e) refl
+      go false = rw (none_picked rule ps s r e) refl
 
   -- the first of the lane is x
   module _ (x : ℕ) (l : List ℕ) (once : Once r) (inside : x < length ps) (e : lane rule ps s r ≡ x ∷ l) (want : ℕ) (some : want ≢ 0) where
@@ -75,7 +75,7 @@ module _ (rule : ℕ) (ps : List Piece) (r : List ℕ) (s d : ℕ) where
     }
       where
         f : First rule ps s r x l
-        f = picks_first rule ps s r x l e
+        f = first_picked rule ps s r x l e
 
         ps' : List Piece
         ps' = set ps x (of_weight ((at_slot ps x).weight - want) (at_slot ps x))

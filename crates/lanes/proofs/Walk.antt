@@ -16,7 +16,7 @@ use Rattle.taking.proofs.Handed.{handed_length}
 use Rattle.moving.specs.Applied.{full}
 use Rattle.lanes.specs.Order.{at_slot, pieces_at, ahead, lane}
 use Rattle.lanes.specs.Walk.{remains}
-use Rattle.lanes.proofs.Order.{First, picks_none, picks_first, length_in_order}
+use Rattle.lanes.proofs.Order.{First, none_picked, first_picked, length_in_order}
 use Rattle.lanes.proofs.Hops.{pieces_append}
 
 -- where nothing is wanted, nothing is left over
@@ -48,9 +48,9 @@ module _ (rule : ℕ) (ps : List Piece) (s : ℕ) where
 
       found : (l : List ℕ) → lane rule ps s r ≡ l → want ≢ 0 → length l ≤ suc n → Tells n
           → added (take_found (take_up_to (select (wins rule) s) n) want (pieces_at ps r) (select (wins rule) s (pieces_at ps r))) ≡ min 1 (remains ps want l)
-      found [] e some h i = rw (picks_none rule ps s r e) (omega arith)
+      found [] e some h i = rw (none_picked rule ps s r e) (omega arith)
       found (x ∷ l) e some h i =
-          let f = picks_first rule ps s r x l e in
+          let f = first_picked rule ps s r x l e in
           rw f.found (whole x l f some (omega (arith, h)) i (leb (at_slot ps x).weight want))
 
       next : (c : Bool) → eqb want 0 ≡ c → Tells n

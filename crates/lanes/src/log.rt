@@ -38,7 +38,7 @@ fn put_first(log: &mut [u16], notes: &[u16], count: usize)
 
 impl Store {
     // Slot x is received.
-    pub fn receive(&mut self, x: usize)
+    pub(crate) fn receive(&mut self, x: usize)
         requires { (self.old.noted < most_notes) × (x < most_places) }
         ensures { Noted x self.old self.new }
     {
@@ -48,7 +48,7 @@ impl Store {
 
     // The log is closed: it keeps the last note of each slot.
     #[tactic(auto, using(crate::proofs::Listing::closable))]
-    pub fn close(&mut self)
+    pub(crate) fn close(&mut self)
         requires { Closable self.old }
         ensures { Closed self.old self.new }
     {
@@ -59,7 +59,7 @@ impl Store {
     }
 
     // The pieces are written into a table in order of receipt, once the log is closed.
-    pub fn write(&self, table: &mut [u32])
+    pub(crate) fn write(&self, table: &mut [u32])
         requires { Writable self.now × (4 * self.now.count ≤ length table.old) }
         ensures { table.new ≡ lay (pieces_in self.now) table.old }
     {

@@ -16,7 +16,7 @@ use taking::Move;
 
 impl Store {
     // What would still be wanted once whole pieces are handed over. Nothing is moved: a move that is refused leaves all as it was.
-    pub fn left_over(&self, s: u32, want: u32) -> u32
+    pub(crate) fn left_over(&self, s: u32, want: u32) -> u32
         requires { (s < most_lanes) × Leads (start s) self.now }
         ensures { (line : List ℕ) → Chain self.now.next (start s) line → result ≡ remains self.now.pieces want line }
     {
@@ -72,7 +72,7 @@ impl Store {
     }
 
     // The move is made.
-    pub fn carry_out(&mut self, rule: u32, m: Move) -> Applied
+    pub(crate) fn carry_out(&mut self, rule: u32, m: Move) -> Applied
         requires { Going rule m self.old × (rule ≢ stirred_rule) }
         ensures { Made rule m self.old self.new result }
     {
@@ -112,7 +112,7 @@ impl Store {
     }
 
     // The log is closed where it might have no room for the notes of a move.
-    pub fn make_room(&mut self, rule: u32)
+    pub(crate) fn make_room(&mut self, rule: u32)
         requires { Kept rule self.old }
         ensures { Roomy rule self.old self.new }
     {

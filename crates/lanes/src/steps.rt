@@ -6,7 +6,7 @@ use table::Piece;
 
 impl Store {
     // The piece in slot x, the first in the lane of holder s, goes to holder d.
-    pub fn hand_over(&mut self, rule: u32, s: u32, d: u32, x: usize)
+    pub(crate) fn hand_over(&mut self, rule: u32, s: u32, d: u32, x: usize)
         requires { Handing rule s d x self.old }
         ensures { HandedOver rule d x self.old self.new }
     {
@@ -17,7 +17,7 @@ impl Store {
     }
 
     // A new slot holds the piece.
-    pub fn add(&mut self, rule: u32, p: Piece)
+    pub(crate) fn add(&mut self, rule: u32, p: Piece)
         requires { Addable rule p self.old }
         ensures { Added rule p self.old self.new }
     {
