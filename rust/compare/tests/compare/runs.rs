@@ -9,9 +9,8 @@ mod stopped;
 
 use calls::Ran;
 use compare::{room, subjects, Pair, Random};
-use maker::{aimed, aimed_among};
+use maker::{aimed, aimed_among, Maker};
 use reached::Reached;
-use second::Sheet;
 
 /// Each subject beside the second implementation.
 fn pairs() -> Vec<Pair> {
@@ -47,14 +46,9 @@ fn print(title: &str, pairs: &[Pair], reached: &Reached) {
     }
 }
 
-/// Runs a sheet on tables of these lengths. What stops it is only that there is no place.
-fn run_on(
-    pairs: &mut [Pair],
-    random: &mut Random,
-    (sheet, pieces): (&Sheet, usize),
-    lengths: &[usize],
-) {
-    let bytes = sheet.bytes();
+/// Runs a sheet that its book accepts on tables of these lengths. Only a table without a place stops it.
+fn run_on(pairs: &mut [Pair], random: &mut Random, maker: &Maker, lengths: &[usize]) {
+    let (bytes, pieces) = (maker.sheet.bytes(), maker.pieces());
     for &length in lengths {
         let (ran, _) = run_all(pairs, random, &bytes, length);
         let places = length / 4;
@@ -82,8 +76,7 @@ fn tables() {
         let exact = 4 * pieces + odd;
         let roomy = exact + 4 + random.index(300);
         let lengths = [round as usize % 71, exact, exact - 4, roomy];
-        let of_sheet = (&maker.sheet, pieces);
-        run_on(&mut pairs, &mut random, of_sheet, &lengths);
+        run_on(&mut pairs, &mut random, &maker, &lengths);
         reached.watch(&maker.sheet, pieces, true);
         if pieces > 1 {
             reached.watch(&maker.sheet, pieces - 1, false);
@@ -109,8 +102,7 @@ fn many_pieces() {
         let maker = aimed_among(&mut random, round % 4, vessels, movements);
         let exact = 4 * maker.pieces() + random.index(4);
         let lengths = [exact, exact - 4, exact + 4, exact / 2];
-        let of_sheet = (&maker.sheet, maker.pieces());
-        run_on(&mut pairs, &mut random, of_sheet, &lengths);
+        run_on(&mut pairs, &mut random, &maker, &lengths);
         reached.watch(&maker.sheet, maker.pieces(), true);
     }
     print("runs, many pieces", &pairs, &reached);

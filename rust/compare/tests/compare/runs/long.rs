@@ -3,29 +3,33 @@
 use super::maker::{brimming, to_and_fro, Births, Maker};
 use super::reached::{Reached, NOTES};
 use super::stopped::{stop, Full, NUMBERS};
-use super::{pairs, print, run_all};
+use super::{pairs, print, run_all, run_on};
 use calls::{MOVEMENTS, PLACES};
 use compare::{aged_heaviest, Pair, Random};
-use second::{Book, Sheet};
+use second::Book;
 
-/// Runs a sheet that passes where it has so many places: just so many, one place short, and with room.
-fn run_on_three(
+/// Runs a sheet on tables of these lengths, and watches.
+fn run_and_watch(
     pairs: &mut [Pair],
     random: &mut Random,
     reached: &mut Reached,
-    (sheet, pieces): (&Sheet, usize),
+    (maker, lengths): (&Maker, &[usize]),
 ) {
-    assert!(sheet.movements.len() <= MOVEMENTS && pieces <= PLACES);
-    let bytes = sheet.bytes();
-    for (length, number) in [
-        (4 * pieces + random.index(4), 0),
-        (4 * pieces - 1 - random.index(4), 11),
-        (4 * pieces + random.from_to(4, 900) as usize, 0),
-    ] {
-        let (ran, _) = run_all(pairs, random, &bytes, length);
-        assert_eq!(ran.number, number);
-        reached.watch(sheet, length / 4, false);
+    assert!(maker.sheet.movements.len() <= MOVEMENTS);
+    run_on(pairs, random, maker, lengths);
+    for length in lengths {
+        reached.watch(&maker.sheet, length / 4, false);
     }
+}
+
+/// Tables with just as many places as a sheet needs, with one place fewer, and with room.
+fn three(random: &mut Random, maker: &Maker) -> [usize; 3] {
+    let exact = 4 * maker.pieces();
+    [
+        exact + random.index(4),
+        exact - 1 - random.index(4),
+        exact + random.from_to(4, 900) as usize,
+    ]
 }
 
 /// Hundreds of pieces to and fro, hundreds of times; and stopped somewhere by each number.
@@ -40,9 +44,10 @@ fn hundreds_to_and_fro() {
         let mut maker = Maker::new(&mut random, round % 4, vessels).light(births);
         let (pieces, times) = (random.from_to(200, 500), random.from_to(100, 300));
         to_and_fro(&mut random, &mut maker, pieces, times);
-        let (sheet, pieces) = (&maker.sheet, maker.pieces());
-        run_on_three(&mut pairs, &mut random, &mut reached, (sheet, pieces));
+        let on_three = (&maker, &three(&mut random, &maker)[..]);
+        run_and_watch(&mut pairs, &mut random, &mut reached, on_three);
 
+        let sheet = &maker.sheet;
         let number = NUMBERS[round as usize % NUMBERS.len()];
         let index = sheet.movements.len() - 1 - random.index(times as usize);
         let mut book = Book::open(sheet.rule, vessels, PLACES).expect("a sheet");
@@ -62,7 +67,7 @@ fn hundreds_to_and_fro() {
     assert!(reached.closed > 700 && reached.notes > 10_000_000 && reached.most > 500);
 }
 
-/// Nearly as many pieces as a table has places at most, and just as many.
+/// Nearly as many pieces as a table has places at most.
 #[test]
 fn thousands_to_and_fro() {
     let mut pairs = pairs();
@@ -73,8 +78,8 @@ fn thousands_to_and_fro() {
             let mut maker = Maker::new(&mut random, rule, 3).light(births);
             let pieces = random.from_to(3_900, 3_980);
             to_and_fro(&mut random, &mut maker, pieces, 50);
-            let of_three = (&maker.sheet, maker.pieces());
-            run_on_three(&mut pairs, &mut random, &mut reached, of_three);
+            let on_three = (&maker, &three(&mut random, &maker)[..]);
+            run_and_watch(&mut pairs, &mut random, &mut reached, on_three);
         }
     }
     print("runs, thousands to and fro", &pairs, &reached);
@@ -105,15 +110,6 @@ fn every_place_of_the_longest_table() {
     assert!(reached.full == 4 && reached.closed > 1_000);
 }
 
-/// Runs a sheet that passes on a table with just so many places.
-fn run_on_one(pairs: &mut [Pair], random: &mut Random, reached: &mut Reached, maker: &Maker) {
-    let (sheet, pieces) = (&maker.sheet, maker.pieces());
-    let length = 4 * pieces + random.index(4);
-    let (ran, _) = run_all(pairs, random, &sheet.bytes(), length);
-    assert_eq!(ran.number, 0);
-    reached.watch(sheet, pieces, false);
-}
-
 /// A movement that makes as many notes as there is room for, up to two fewer and up to two more; and what
 /// comes behind it.
 #[test]
@@ -126,13 +122,15 @@ fn notes_at_the_brim() {
         let mut maker = Maker::new(&mut random, rule, 2).light(Births::Few);
         let at = brimming(&mut random, &mut maker, notes);
         let mut brim = Reached::default();
-        run_on_one(&mut pairs, &mut random, &mut brim, &maker);
+        let exact = [4 * maker.pieces() + random.index(4)];
+        run_and_watch(&mut pairs, &mut random, &mut brim, (&maker, &exact));
         assert_eq!(brim.notes, notes as u64);
         assert_eq!(brim.closed, u64::from(notes > NOTES));
         for weight in [maker.balance(at) - 1, 1, 2] {
             maker.moves(&mut random, at, 1 - at, weight);
         }
-        run_on_one(&mut pairs, &mut random, &mut reached, &maker);
+        let exact = [4 * maker.pieces() + random.index(4)];
+        run_and_watch(&mut pairs, &mut random, &mut reached, (&maker, &exact));
     }
     print("runs, at the brim", &pairs, &reached);
     assert!(reached.full == 120 && reached.closed == 120);

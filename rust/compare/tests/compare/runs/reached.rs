@@ -15,7 +15,7 @@ pub struct Reached {
     pub whole: u64,
     pub splits: u64,
     pub births: u64,
-    /// Runs that passed with a piece at every place, and those that the last of them was wanting for.
+    /// Runs that passed with a piece at every place, and those that stopped because there was one.
     pub full: u64,
     pub short: u64,
     /// Pieces received: notes, and how often these had to be closed up.
@@ -30,7 +30,8 @@ pub struct Reached {
     pub ties: [u64; 2],
     pub between: [u64; 2],
     pub ahead: [u64; 2],
-    /// Movements of all there is, of one gram of more, and of what is picked first, a gram less, a gram more.
+    /// Likewise movements of all there is, of one gram of more, and of a gram less than what is picked first, of
+    /// just that, and of a gram more.
     pub all: u64,
     pub gram: u64,
     pub first: [u64; 3],

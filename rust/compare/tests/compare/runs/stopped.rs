@@ -42,8 +42,8 @@ fn needing_a_place(random: &mut Random, source: &[u32], full: &mut Full) -> u32 
     }
 }
 
-/// A movement with a fault, in place of one that a book would accept; the places that there have to be.
-/// None where no movement can have it there.
+/// A movement that is refused by a number, in place of one that a book accepts, and the places of a table.
+/// None where no movement can be refused so.
 fn faulty(
     random: &mut Random,
     book: &Book,
@@ -83,8 +83,8 @@ fn faulty(
 /// A sheet, the book that its movements before an index make, and that index.
 pub type Place<'s> = (&'s Sheet, &'s Book, usize);
 
-/// Stops a sheet by a number, on a table that has room but for 11. What lies there is what the movements
-/// before leave. Whether any movement can be so there.
+/// Stops a sheet at an index by a number, on a table that is full for 11 and has room for the others. What
+/// the run leaves is what the movements before leave. False where no movement can be refused so.
 pub fn stop(
     pairs: &mut [Pair],
     random: &mut Random,
