@@ -21,7 +21,7 @@ kept rule = record {
   room = omega arith;
   noted = λ i. grind (arith, nat_tests);
   all = refl;
-  chained = λ v h. ends (rw (get_or-replicate (most_places + most_lanes) (start v) most_places 0 (omega (arith, h))) (omega arith));
+  chained = λ v h. ends (rw (get_or-replicate {A = ℕ} (most_places + most_lanes) (start v) 0 0 (omega (arith, h))) (omega arith));
 }
 
 pub fresh_order : (rule : ℕ) → rule < stirred_rule → InOrder rule fresh

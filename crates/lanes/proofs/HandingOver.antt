@@ -9,7 +9,7 @@ use Rattle.table.specs.Pieces.{hand_to}
 use Rattle.table.specs.Table.{most_places}
 use Rattle.lanes.specs.Notes.{has, without, Once}
 use Rattle.lanes.specs.Order.{at_slot, ahead, lane}
-use Rattle.lanes.specs.Chains.{start, behind, Chain, foot, put_behind}
+use Rattle.lanes.specs.Chains.{start, link, Chain, foot, put_behind}
 use Rattle.lanes.specs.Lanes.{most_lanes}
 use Rattle.lanes.specs.declared.Store.{Store}
 use Rattle.lanes.specs.Store.{most_notes, received, lane_of}
@@ -49,20 +49,20 @@ module _ (rule v d x : ℕ) (s : Store) (h : Handing rule v d x s) (links : leng
       ∙ ap (lane rule s.pieces w) (sym moved.first.lies)
 
   -- the slot has left
-  left_chains : (w : ℕ) → w < most_lanes → Chain (set s.next (start v) (behind s.next x)) (start w) (lane rule s.pieces w (without x (received s)))
+  left_chains : (w : ℕ) → w < most_lanes → Chain (set s.next (start v) (link s.next x)) (start w) (lane rule s.pieces w (without x (received s)))
   left_chains w q = go (eqb w v) refl
     where
       none : (u : ℕ) → u < most_lanes → has (start v) (lane_of rule s u) ≡ false
       none u p = start_in_none rule s.pieces (received s) s.next h.kept.chained u p v
 
-      go : (t : Bool) → eqb w v ≡ t → Chain (set s.next (start v) (behind s.next x)) (start w) (lane rule s.pieces w (without x (received s)))
+      go : (t : Bool) → eqb w v ≡ t → Chain (set s.next (start v) (link s.next x)) (start w) (lane rule s.pieces w (without x (received s)))
       go true e =
           let u : w ≡ v = eqb-true w v e in
           let l : lane rule s.pieces v (without x (received s)) ≡ lane_v.rest = ap (lane rule s.pieces v) others_are ∙ moved.first.left in
           rw (u, l) (chain_leave (rw lane_v.is at (h.kept.chained v h.source)) (omega (arith, links, h.source)) (has_first (start v) x lane_v.rest (rw lane_v.is at (none v h.source))).1)
       go false e =
           let n : w ≢ v = eqb-false w v e in
-          rw (lane_without w n) (chain_apart (start v) (behind s.next x) (h.kept.chained w q) (λ k. n (omega (arith, k))) (none w q))
+          rw (lane_without w n) (chain_apart (start v) (link s.next x) (h.kept.chained w q) (λ k. n (omega (arith, k))) (none w q))
 
   module _ (s₁ : Store) (l : Left v x s s₁) where
     pub joining : Joining rule d x s₁
@@ -102,7 +102,7 @@ module _ (rule v d x : ℕ) (s : Store) (h : Handing rule v d x s) (links : leng
       born : (i : ℕ) → (at_slot after i).birth ≡ (at_slot s.pieces i).birth
       born = in_common s.pieces x (hand_to d (at_slot s.pieces x)) (λ p. p.birth) (omega (arith, h.slot, h.kept.slots)) refl
 
-      links_now : s₄.next ≡ put_behind x (foot (ahead rule s.pieces) x (start d) (lane rule s.pieces d (without x (received s)))) (set s.next (start v) (behind s.next x))
+      links_now : s₄.next ≡ put_behind x (foot (ahead rule s.pieces) x (start d) (lane rule s.pieces d (without x (received s)))) (set s.next (start v) (link s.next x))
       links_now = next_is ∙ j.links ∙ rw (l.links, l.pieces, l.log, l.noted, lane_without d (λ e. h.apart (sym e))) refl
 
       pub handed_over : HandedOver rule d x s s₄
@@ -113,8 +113,8 @@ module _ (rule v d x : ℕ) (s : Store) (h : Handing rule v d x s) (links : leng
           room = omega (arith, noted_now, h.room);
           noted = λ i. rw (order_now, count_now) (moved.same_slots i ∙ h.kept.noted i);
           all = rw (order_now, count_now) (moved.as_many ∙ h.kept.all);
-          chained = λ w q. rw (links_now, pieces_now, order_now) (received_last rule s.pieces (without x (received s)) (set s.next (start v) (behind s.next x)) left_chains after x same born
-              h.slot (has_without x x (received s) ∙ rw (eq-eqb x x refl) refl) (once_without x (received s) once) (length-set s.next (start v) (behind s.next x) ∙ links) d (ap (λ (p : Piece). p.holder) there) h.destination w q);
+          chained = λ w q. rw (links_now, pieces_now, order_now) (received_last rule s.pieces (without x (received s)) (set s.next (start v) (link s.next x)) left_chains after x same born
+              h.slot (has_without x x (received s) ∙ rw (eq-eqb x x refl) refl) (once_without x (received s) once) (length-set s.next (start v) (link s.next x) ∙ links) d (ap (λ (p : Piece). p.holder) there) h.destination w q);
         };
         pieces = pieces_now;
         order = order_now;

@@ -8,7 +8,7 @@ use Rattle.lanes.specs.declared.Store.{Store}
 use Rattle.lanes.specs.Lanes.{most_lanes}
 use Rattle.lanes.specs.Notes.{has, without}
 use Rattle.lanes.specs.Order.{at_slot, ahead}
-use Rattle.lanes.specs.Chains.{start, behind, Chain, foot, put_behind}
+use Rattle.lanes.specs.Chains.{start, link, behind, Chain, foot, put_behind}
 use Rattle.lanes.specs.Store.{most_notes, received, lane_of, Kept}
 
 -- From place f on lies a chain, of no more slots than there are.
@@ -46,7 +46,7 @@ pub record Joined (rule d x : ℕ) (s s' : Store) : Type 0 where
 
 -- Slot x, the first of its lane, has left the lane of holder v.
 pub record Left (v x : ℕ) (s s' : Store) : Type 0 where
-  pub links : s'.next ≡ set s.next (start v) (behind s.next x)
+  pub links : s'.next ≡ set s.next (start v) (link s.next x)
   pub pieces : s'.pieces ≡ s.pieces
   pub log : s'.log ≡ s.log
   pub noted : s'.noted ≡ s.noted

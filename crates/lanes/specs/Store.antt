@@ -18,8 +18,8 @@ most_notes = 16384
 unfoldable pub fresh : Store
 fresh = record {
   pieces = replicate most_places no_piece;
-  next = replicate (most_places + most_lanes) most_places;
-  hints = replicate most_lanes most_places;
+  next = replicate (most_places + most_lanes) 0;
+  hints = replicate most_lanes 0;
   log = replicate most_notes 0;
   spare = replicate most_places 0;
   count = 0;

@@ -28,9 +28,6 @@ const LINKS: usize = PLACES + LANES;
 // So many notes fit in the log.
 const NOTES: usize = 16384;
 
-// The end of a lane: any number that is no slot.
-const END: u16 = PLACES as u16;
-
 // A slot holds one piece for good: pieces never become fewer. Each holder's slots lie in a lane in picking order, and the log tells the order of receipt: a
 // slot's last note is its place in it. Where a slot may join a lane soon is a hint.
 #[derive(Drop)]
@@ -58,8 +55,8 @@ impl Store {
         };
         Store {
             pieces: [none; PLACES],
-            next: [END; LINKS],
-            hints: [END; LANES],
+            next: [0; LINKS],
+            hints: [0; LANES],
             log: [0; NOTES],
             spare: [0; PLACES],
             count: 0,

@@ -23,7 +23,7 @@ impl Store {
         let mut left = want;
         let mut f = PLACES + s as usize;
         for _ in 0..PLACES {
-            let x = self.next[f] as usize;
+            let x = self.behind(f);
             if PLACES <= x {
                 return left;
             }
@@ -44,7 +44,7 @@ impl Store {
     {
         let mut left = m.weight;
         for whole in 0..PLACES {
-            let x = self.next[PLACES + m.source as usize] as usize;
+            let x = self.behind(PLACES + m.source as usize);
             if left == 0 || PLACES <= x {
                 return Plan { whole, left };
             }
@@ -86,7 +86,7 @@ impl Store {
                 count: self.count,
             };
         }
-        let x = self.next[PLACES + m.source as usize] as usize;
+        let x = self.behind(PLACES + m.source as usize);
         if PLACES <= x {
             let piece = Piece {
                 holder: m.destination,

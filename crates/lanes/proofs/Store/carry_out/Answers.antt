@@ -1,5 +1,5 @@
 -- `Store::carry_out`: its ways out.
-use Rattle.std.proofs.Common.{refl, rules}
+use Rattle.std.proofs.Common.{rules}
 use Rattle.lanes.proofs.Made.{made_even, made_born, can_split, made_split}
 use Rattle.lanes.proofs.Store.carry_out.Goals as goal
 
@@ -10,7 +10,7 @@ pub returns-then-x-ge-PLACES : goal.returns-then-x-ge-PLACES
 returns-then-x-ge-PLACES c = made_born _ _ _ c.requires.0 c.requires.1 _ _ c.hand_over_whole-whole.ensures (search rules) (search rules) _ c.add.ensures
 
 pub split_off-requires : goal.split_off-requires
-split_off-requires c = can_split _ _ _ c.requires.0 c.requires.1 _ _ c.hand_over_whole-whole.ensures (search rules) _ refl (search rules)
+split_off-requires c = can_split _ _ _ c.requires.0 c.requires.1 _ _ c.hand_over_whole-whole.ensures (search rules) _ c.behind-x.ensures (search rules)
 
 pub returns : goal.returns
-returns c = made_split _ _ _ c.requires.0 c.requires.1 _ _ c.hand_over_whole-whole.ensures (search rules) _ refl (search rules) _ c.split_off.ensures
+returns c = made_split _ _ _ c.requires.0 c.requires.1 _ _ c.hand_over_whole-whole.ensures (search rules) _ c.behind-x.ensures (search rules) _ c.split_off.ensures
