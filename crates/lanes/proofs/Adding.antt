@@ -13,6 +13,7 @@ use Rattle.lanes.specs.Store.{most_notes, received, lane_of}
 use Rattle.lanes.specs.Steps.{Joining, Joined, Addable, Added}
 use Rattle.lanes.proofs.Notes.{has_append, without_none, once_latest}
 use Rattle.lanes.proofs.Hops.{lane_kept, at_same, at_other}
+use Rattle.lanes.proofs.Listing.{same_listed}
 use Rattle.lanes.proofs.Receiving.{received_last}
 use Rattle.lanes.proofs.HandingOver.{noted_last}
 
@@ -22,7 +23,7 @@ module _ (rule : ℕ) (p : Piece) (s : Store) (h : Addable rule p s) (links : le
   after = set s.pieces s.count p
 
   new : has s.count (received s) ≡ false
-  new = h.kept.noted s.count ∙ grind (arith, nat_tests)
+  new = h.kept.listed.noted s.count ∙ grind (arith, nat_tests)
 
   lanes_are : (v : ℕ) → lane rule after v (received s) ≡ lane_of rule s v
   lanes_are = lane_kept s.pieces after s.count (at_other s.pieces s.count p) rule (received s) new
@@ -34,9 +35,7 @@ module _ (rule : ℕ) (p : Piece) (s : Store) (h : Addable rule p s) (links : le
   module _ (s₁ : Store) (pieces_is : s₁.pieces ≡ after) (next_is : s₁.next ≡ s.next) (log_is : s₁.log ≡ s.log) (noted_is : s₁.noted ≡ s.noted) (count_is : s₁.count ≡ s.count) where
     pub joining_new : Joining rule p.holder s.count s₁
     joining_new = record {
-      few = rw count_is h.kept.few;
-      noted = rw (log_is, noted_is, count_is) h.kept.noted;
-      all = rw (log_is, noted_is, count_is) h.kept.all;
+      listed = same_listed s s₁ h.kept.listed log_is noted_is count_is;
       slot = h.place;
       holder = h.holder;
       apart = λ q. absurd (omega (arith, q, count_is));
@@ -64,16 +63,18 @@ module _ (rule : ℕ) (p : Piece) (s : Store) (h : Addable rule p s) (links : le
 
       one_more_slot : (i : ℕ) → has i (received s) || has i (s.count ∷ []) ≡ ltb i (s.count + 1)
       unfolding has
-      one_more_slot i = let q = h.kept.noted i in grind (arith, nat_tests)
+      one_more_slot i = let q = h.kept.listed.noted i in grind (arith, nat_tests)
 
       pub added : Added rule p s s₃
       added = record {
         kept = record {
           slots = rw pieces_now (length-set s.pieces s.count p ∙ h.kept.slots);
-          few = omega (arith, counted, h.place);
           room = omega (arith, noted_now, h.room);
-          noted = λ i. rw (order_now, counted) (has_append i (received s) (s.count ∷ []) ∙ one_more_slot i);
-          all = rw (order_now, counted) (simp length-append (omega (arith, h.kept.all)));
+          listed = record {
+            few = omega (arith, counted, h.place);
+            noted = λ i. rw (order_now, counted) (has_append i (received s) (s.count ∷ []) ∙ one_more_slot i);
+            all = rw (order_now, counted) (simp length-append (omega (arith, h.kept.listed.all)));
+          };
           chained = λ v q. rw (links_now, pieces_now, order_now) (received_last rule after (received s) s.next chains after s.count (λ i n. refl) (λ i. refl)
               h.place new (once_latest (take s.noted s.log)) links p.holder (ap (λ (k : Piece). k.holder) there) h.holder v q);
         };

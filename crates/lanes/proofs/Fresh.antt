@@ -17,10 +17,8 @@ kept : (rule : ℕ) → Kept rule fresh
 unfolding fresh latest has in_order
 kept rule = record {
   slots = length-replicate most_places no_piece;
-  few = omega arith;
   room = omega arith;
-  noted = λ i. grind (arith, nat_tests);
-  all = refl;
+  listed = record { few = omega arith; noted = λ i. grind (arith, nat_tests); all = refl };
   chained = λ v h. ends (rw (get_or-replicate {A = ℕ} (most_places + most_lanes) (start v) 0 0 (omega (arith, h))) (omega arith));
 }
 

@@ -18,6 +18,7 @@ use Rattle.lanes.proofs.Notes.{has_without, latest_noted, once_latest, once_with
 use Rattle.lanes.proofs.Order.{not_ours}
 use Rattle.lanes.proofs.Hops.{Hop, hop, at_same, at_other, in_common}
 use Rattle.lanes.proofs.Chains.{has_first, chain_apart, chain_leave, Begins, begins}
+use Rattle.lanes.proofs.Listing.{same_listed}
 use Rattle.lanes.proofs.Receiving.{start_in_none, received_last}
 
 -- a slot that is noted once more
@@ -67,9 +68,7 @@ module _ (rule v d x : ℕ) (s : Store) (h : Handing rule v d x s) (links : leng
   module _ (s₁ : Store) (l : Left v x s s₁) where
     pub joining : Joining rule d x s₁
     joining = record {
-      few = rw l.count h.kept.few;
-      noted = rw (l.log, l.noted, l.count) h.kept.noted;
-      all = rw (l.log, l.noted, l.count) h.kept.all;
+      listed = same_listed s s₁ h.kept.listed l.log l.noted l.count;
       slot = h.slot;
       holder = h.destination;
       apart = λ q e. h.apart (sym ours ∙ rw l.pieces at e);
@@ -109,10 +108,12 @@ module _ (rule v d x : ℕ) (s : Store) (h : Handing rule v d x s) (links : leng
       handed_over = record {
         kept = record {
           slots = rw pieces_now (length-set s.pieces x _ ∙ h.kept.slots);
-          few = rw count_now h.kept.few;
           room = omega (arith, noted_now, h.room);
-          noted = λ i. rw (order_now, count_now) (moved.same_slots i ∙ h.kept.noted i);
-          all = rw (order_now, count_now) (moved.as_many ∙ h.kept.all);
+          listed = record {
+            few = rw count_now h.kept.listed.few;
+            noted = λ i. rw (order_now, count_now) (moved.same_slots i ∙ h.kept.listed.noted i);
+            all = rw (order_now, count_now) (moved.as_many ∙ h.kept.listed.all);
+          };
           chained = λ w q. rw (links_now, pieces_now, order_now) (received_last rule s.pieces (without x (received s)) (set s.next (start v) (link s.next x)) left_chains after x same born
               h.slot (has_without x x (received s) ∙ rw (eq-eqb x x refl) refl) (once_without x (received s) once) (length-set s.next (start v) (link s.next x) ∙ links) d (ap (λ (p : Piece). p.holder) there) h.destination w q);
         };

@@ -43,8 +43,8 @@ module _ (rule : ℕ) (m : Move) (s₀ : Store) (g : Going rule m s₀) where
         goes = goes_start rule m s₀.pieces (received s₀);
         count = refl;
         wanted = refl;
-        room = omega (arith, n, g.kept.all, g.room);
-        few = omega (arith, n, g.kept.all, g.kept.few);
+        room = omega (arith, n, g.kept.listed.all, g.room);
+        few = omega (arith, n, g.kept.listed.all, g.kept.listed.few);
       }
 
   module _ (s : Store) (whole left : ℕ) (h : Handed rule m s₀ s whole left) where

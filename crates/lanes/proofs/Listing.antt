@@ -10,8 +10,7 @@ use Rattle.table.specs.Table.{most_places}
 use Rattle.lanes.specs.Notes.{has, latest}
 use Rattle.lanes.specs.Closing.{Listable, Lists}
 use Rattle.lanes.specs.declared.Store.{Store}
-use Rattle.lanes.specs.Store.{most_notes}
-use Rattle.lanes.specs.Steps.{Closable}
+use Rattle.lanes.specs.Store.{most_notes, Listed}
 use Rattle.lanes.proofs.Notes.{has_at, has_latest, length_latest_drop}
 
 -- the last k of the notes
@@ -112,10 +111,14 @@ module _ (log : List ℕ) (noted count : ℕ) (last₀ : List ℕ) (able : Lista
             go i h false u = get_or-set_other seen x i true false (eqb-false i x u) ∙ l.seen_is i h
 
 -- the log of memory that is kept in order
-pub closable : (s : Store) → Closable s → most_notes ≤ length s.log → most_places ≤ length s.spare → Listable s.log s.noted s.count s.spare
-closable s c long wide = record {
-  inside = omega (arith, c.room, long);
+pub closable : (s : Store) → Listed s → s.noted ≤ most_notes → most_notes ≤ length s.log → most_places ≤ length s.spare → Listable s.log s.noted s.count s.spare
+closable s c room long wide = record {
+  inside = omega (arith, room, long);
   slots = λ i h. let q = ltb-true i s.count (sym (c.noted i) ∙ (has_latest i (take s.noted s.log) ∙ h)) in omega (arith, q, c.few);
   all = c.all;
   room = omega (arith, c.few, wide);
 }
+
+-- memory with the same notes
+pub same_listed : (s s' : Store) → Listed s → s'.log ≡ s.log → s'.noted ≡ s.noted → s'.count ≡ s.count → Listed s'
+same_listed s s' l log noted count = record { few = rw count l.few; noted = rw (log, noted, count) l.noted; all = rw (log, noted, count) l.all }

@@ -20,6 +20,7 @@ use Rattle.lanes.specs.Moving.{Going, Gone, Splitting, SplitOff, Made, Roomy}
 use Rattle.lanes.proofs.Notes.{latest_latest, once_latest, Among, among}
 use Rattle.lanes.proofs.Order.{members}
 use Rattle.lanes.proofs.Hops.{Reweighed, reweighed}
+use Rattle.lanes.proofs.Listing.{same_listed}
 use Rattle.lanes.proofs.Chains.{Begins, begins, none_behind}
 use Rattle.lanes.proofs.OneByOne.{Ended, ends_even, ends_split, ends_born}
 
@@ -28,16 +29,14 @@ pub roomy : (rule : ℕ) (s s' : Store) → Kept rule s → Closed s s' → Room
 roomy rule s s' k c = record {
   kept = record {
     slots = rw c.pieces k.slots;
-    few = rw c.count k.few;
-    room = omega (arith, c.noted, k.few);
-    noted = rw (order, c.count) k.noted;
-    all = rw (order, c.count) k.all;
+    room = omega (arith, c.noted, k.listed.few);
+    listed = record { few = rw c.count k.listed.few; noted = rw (order, c.count) k.listed.noted; all = rw (order, c.count) k.listed.all };
     chained = rw (order, c.links, c.pieces) k.chained;
   };
   order = order;
   pieces = c.pieces;
   count = c.count;
-  room = omega (arith, c.noted, c.count, k.few);
+  room = omega (arith, c.noted, c.count, k.listed.few);
 }
   where
     order : received s' ≡ received s
@@ -50,13 +49,13 @@ module _ (rule : ℕ) (s : Store) (k : Kept rule s) where
   first_used v x l e =
       let m = members (ahead rule s.pieces) (λ i. eqb (at_slot s.pieces i).holder v) x (received s) in
       let h : has x (lane_of rule s v) ≡ true = ap (has x) e ∙ grind (arith, nat_tests) in
-      ltb-true x s.count (sym (k.noted x) ∙ grind (arith, nat_tests, m, h))
+      ltb-true x s.count (sym (k.listed.noted x) ∙ grind (arith, nat_tests, m, h))
 
   pub next_unused : has s.count (received s) ≡ false
-  next_unused = k.noted s.count ∙ grind (arith, nat_tests)
+  next_unused = k.listed.noted s.count ∙ grind (arith, nat_tests)
 
   pub length_pieces_in : length (pieces_in s) ≡ s.count
-  length_pieces_in = rw length-map k.all
+  length_pieces_in = rw length-map k.listed.all
 
 -- a piece gives a part
 module _ (rule d x weight : ℕ) (s : Store) (h : Splitting rule d x weight s) where
@@ -64,7 +63,7 @@ module _ (rule d x weight : ℕ) (s : Store) (h : Splitting rule d x weight s) w
   part = hand_to d (of_weight weight (at_slot s.pieces x))
 
   lies : Among x (received s)
-  lies = among x (received s) (h.kept.noted x ∙ grind (arith, nat_tests, h.used))
+  lies = among x (received s) (h.kept.listed.noted x ∙ grind (arith, nat_tests, h.used))
 
   lighter : Reweighed rule s.pieces (set s.pieces x (of_weight ((at_slot s.pieces x).weight - weight) (at_slot s.pieces x))) (received s) lies.before x lies.after ((at_slot s.pieces x).weight - weight)
   lighter = reweighed rule s.pieces (received s) lies.before x lies.after ((at_slot s.pieces x).weight - weight) (once_latest (take s.noted s.log)) lies.lies (omega (arith, h.used, h.place, h.kept.slots))
@@ -75,10 +74,8 @@ module _ (rule d x weight : ℕ) (s : Store) (h : Splitting rule d x weight s) w
     part_addable = record {
       kept = record {
         slots = rw pieces_is (length-set s.pieces x _ ∙ h.kept.slots);
-        few = rw count_is h.kept.few;
         room = rw noted_is h.kept.room;
-        noted = rw (log_is, noted_is, count_is) h.kept.noted;
-        all = rw (log_is, noted_is, count_is) h.kept.all;
+        listed = same_listed s s₁ h.kept.listed log_is noted_is count_is;
         chained = λ v q. rw (next_is, pieces_is, log_is, noted_is, lighter.lanes v) (h.kept.chained v q);
       };
       place = rw count_is h.place;

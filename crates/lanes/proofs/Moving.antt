@@ -20,20 +20,20 @@ use Rattle.lanes.proofs.Walk.{full_is, not_full, full_if_left}
 
 module _ (rule : ℕ) (s : Store) (o : InOrder rule s) (places : ℕ) (m : Move) (c : Contents) (view : contents rule s ≡ c) (h : Movable places m c) where
   few : s.count ≤ places
-  few = omega (arith, o.kept.all, rw length-map at (rw (← view) at h.pieces))
+  few = omega (arith, o.kept.listed.all, rw length-map at (rw (← view) at h.pieces))
 
   pub few_full : s.count < places → false ≡ full places m (taken_of m c)
-  few_full q = rw (← view) (sym (not_full rule m s.pieces (received s) o.singly places (rw o.kept.all q)))
+  few_full q = rw (← view) (sym (not_full rule m s.pieces (received s) o.singly places (rw o.kept.listed.all q)))
 
   pub lane_leads : (m.source < most_lanes) × Leads (start m.source) s
   lane_leads =
       let n = length_in_order (ahead rule s.pieces) (λ i. eqb (at_slot s.pieces i).holder m.source) (received s) in
-      (h.source, record { place = omega (arith, h.source); line = lane_of rule s m.source; chain = o.kept.chained m.source h.source; short = omega (arith, n, o.kept.all, o.kept.few) })
+      (h.source, record { place = omega (arith, h.source); line = lane_of rule s m.source; chain = o.kept.chained m.source h.source; short = omega (arith, n, o.kept.listed.all, o.kept.listed.few) })
 
   pub left_full : places ≤ s.count → (left : ℕ) → ((l : List ℕ) → Chain s.next (start m.source) l → left ≡ remains s.pieces m.weight l)
       → not (eqb left 0) ≡ full places m (taken_of m c)
   left_full q left e =
-      let w = full_if_left rule m s.pieces (received s) o.singly places (omega (arith, q, few, o.kept.all)) in
+      let w = full_if_left rule m s.pieces (received s) o.singly places (omega (arith, q, few, o.kept.listed.all)) in
       rw (← view, e (lane_of rule s m.source) (o.kept.chained m.source h.source)) (sym w)
 
   -- a move that is full
@@ -53,7 +53,7 @@ module _ (rule : ℕ) (s : Store) (o : InOrder rule s) (places : ℕ) (m : Move)
         place = λ some.
             let q = ltb-false places _ (sym (full_is rule m s.pieces (received s) o.singly places) ∙ rw (← view) at e) in
             let some' = rw (r.pieces, r.order) at some in
-            rw r.count (omega (arith, q, some', h.most, o.kept.all));
+            rw r.count (omega (arith, q, some', h.most, o.kept.listed.all));
         room = r.room;
       },
       o.singly,

@@ -1,15 +1,15 @@
 -- What the steps of a move ask of memory, and promise: s is memory before, and with a prime, afterwards.
 -- Definitions only. Assumes nothing.
-use Rattle.std.specs.Prelude.{◌≡◌, ◌≢◌, List, [], ◌∷◌, ◌++◌, ℕ, ◌+◌, ◌≤◌, ◌<◌, ltb, length, set, take}
+use Rattle.std.specs.Prelude.{◌≡◌, ◌≢◌, List, [], ◌∷◌, ◌++◌, ℕ, ◌+◌, ◌≤◌, ◌<◌, length, set, take}
 use Rattle.table.specs.declared.Piece.{Piece}
 use Rattle.table.specs.Pieces.{hand_to}
 use Rattle.table.specs.Table.{most_places}
 use Rattle.lanes.specs.declared.Store.{Store}
 use Rattle.lanes.specs.Lanes.{most_lanes}
-use Rattle.lanes.specs.Notes.{has, without}
+use Rattle.lanes.specs.Notes.{without}
 use Rattle.lanes.specs.Order.{at_slot, ahead}
 use Rattle.lanes.specs.Chains.{start, link, behind, Chain, foot, put_behind}
-use Rattle.lanes.specs.Store.{most_notes, received, lane_of, Kept}
+use Rattle.lanes.specs.Store.{received, lane_of, Listed, Kept, most_notes}
 
 -- From place f on lies a chain, of no more slots than there are.
 pub record Leads (f : ℕ) (s : Store) : Type 0 where
@@ -20,9 +20,7 @@ pub record Leads (f : ℕ) (s : Store) : Type 0 where
 
 -- Slot x can join the lane of holder d: it is in use elsewhere, or not yet.
 pub record Joining (rule d x : ℕ) (s : Store) : Type 0 where
-  pub few : s.count ≤ most_places
-  pub noted : (i : ℕ) → has i (received s) ≡ ltb i s.count
-  pub all : length (received s) ≡ s.count
+  pub listed : Listed s
   pub slot : x < most_places
   pub holder : d < most_lanes
   pub apart : x < s.count → (at_slot s.pieces x).holder ≢ d
@@ -60,13 +58,7 @@ pub record Noted (x : ℕ) (s s' : Store) : Type 0 where
   pub pieces : s'.pieces ≡ s.pieces
   pub count : s'.count ≡ s.count
 
--- The log can be closed, and is.
-pub record Closable (s : Store) : Type 0 where
-  pub few : s.count ≤ most_places
-  pub room : s.noted ≤ most_notes
-  pub noted : (i : ℕ) → has i (received s) ≡ ltb i s.count
-  pub all : length (received s) ≡ s.count
-
+-- The log is closed: its notes are the last ones that it had.
 pub record Closed (s s' : Store) : Type 0 where
   pub log : take s'.noted s'.log ≡ received s
   pub noted : s'.noted ≡ s.count
@@ -74,12 +66,10 @@ pub record Closed (s s' : Store) : Type 0 where
   pub pieces : s'.pieces ≡ s.pieces
   pub count : s'.count ≡ s.count
 
--- The log is closed: its notes are the order of receipt.
+-- The pieces can be written: the notes of a closed log are the order of receipt.
 pub record Writable (s : Store) : Type 0 where
-  pub few : s.count ≤ most_places
-  pub noted : (i : ℕ) → has i (received s) ≡ ltb i s.count
+  pub listed : Listed s
   pub closed : take s.count s.log ≡ received s
-  pub all : length (received s) ≡ s.count
 
 -- The piece in slot x, the first of its lane, can go from holder v to holder d.
 pub record Handing (rule v d x : ℕ) (s : Store) : Type 0 where

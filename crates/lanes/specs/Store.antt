@@ -38,11 +38,15 @@ pieces_in s = pieces_at s.pieces (received s)
 abbrev pub lane_of : ℕ → Store → ℕ → List ℕ
 lane_of rule s v = lane rule s.pieces v (received s)
 
--- Memory in order, under a rule: each slot in use has a note, no other has one, and each lane lies from its start on. Nothing is asked of hints.
-pub record Kept (rule : ℕ) (s : Store) : Type 0 where
-  pub slots : length s.pieces ≡ most_places
+-- Each slot in use has a note, and no other has one.
+pub record Listed (s : Store) : Type 0 where
   pub few : s.count ≤ most_places
-  pub room : s.noted ≤ most_notes
   pub noted : (i : ℕ) → has i (received s) ≡ ltb i s.count
   pub all : length (received s) ≡ s.count
+
+-- Memory in order, under a rule: slots are noted, and each lane lies from its start on. Nothing is asked of hints.
+pub record Kept (rule : ℕ) (s : Store) : Type 0 where
+  pub slots : length s.pieces ≡ most_places
+  pub room : s.noted ≤ most_notes
+  pub listed : Listed s
   pub chained : (v : ℕ) → v < most_lanes → Chain s.next (start v) (lane_of rule s v)

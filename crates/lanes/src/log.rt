@@ -1,9 +1,8 @@
 // The log of receipts: a slot's last note is its place in the order of receipt.
 ghost use Rattle.std.specs.Prelude.{◌≡◌, ◌<◌, ◌≤◌, ◌*◌, length, take};
 ghost use Rattle.table.specs.Table.{most_places, lay};
-ghost use Rattle.lanes.specs.Store.{pieces_in};
-ghost use Rattle.lanes.specs.Store.{most_notes};
-ghost use Rattle.lanes.specs.Steps.{Noted, Closable, Closed, Writable};
+ghost use Rattle.lanes.specs.Store.{most_notes, pieces_in, Listed};
+ghost use Rattle.lanes.specs.Steps.{Noted, Closed, Writable};
 ghost use Rattle.lanes.specs.Closing.{Listable, Lists};
 
 use super::Store;
@@ -49,7 +48,7 @@ impl Store {
     // The log is closed: it keeps the last note of each slot.
     #[tactic(auto, using(crate::proofs::Listing::closable))]
     pub(crate) fn close(&mut self)
-        requires { Closable self.old }
+        requires { Listed self.old × (self.old.noted ≤ most_notes) }
         ensures { Closed self.old self.new }
     {
         let (count, noted) = (self.count, self.noted);
