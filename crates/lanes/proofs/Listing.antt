@@ -11,7 +11,7 @@ use Rattle.lanes.specs.Notes.{has, latest}
 use Rattle.lanes.specs.Closing.{Listable, Lists}
 use Rattle.lanes.specs.declared.Store.{Store}
 use Rattle.lanes.specs.Store.{most_notes, Listed}
-use Rattle.lanes.proofs.Notes.{has_at, has_latest, length_latest_drop}
+use Rattle.lanes.proofs.Notes.{has_at, has_latest, length_latest_drop, latest_drop}
 
 -- the last k of the notes
 abbrev newest : List ℕ → ℕ → List ℕ
@@ -45,12 +45,17 @@ module _ (log : List ℕ) (noted count : ℕ) (last₀ : List ℕ) (able : Lista
       }
 
   module _ (seen : List Bool) (last : List ℕ) (free k : ℕ) (l : Listing notes count seen last free k) where
+    -- as many are listed as there are
+    pub listing_full : free ≡ 0 → Lists notes count last
+    listing_full none =
+        let m : length (latest (newest notes k)) ≡ length (latest notes) = omega (arith, l.free_is, none, able.all) in
+        rw none at l.listed ∙ latest_drop (length notes - k) notes m
+
     pub listing_end : k ≡ noted → Lists notes count last
     listing_end e =
         let all : newest notes k ≡ notes = ap (λ n. drop n notes) {y = 0} (omega (arith, e, length_notes)) in
         let m : length (latest (newest notes k)) ≡ length (latest notes) = ap (λ q. length (latest q)) all in
-        let none : free ≡ 0 = omega (arith, l.free_is, m, able.all) in
-        rw (none, all) at l.listed
+        listing_full (omega (arith, l.free_is, m, able.all))
 
     module _ (x : ℕ) (lies : x ≡ get_or log (noted - 1 - k) 0) (q : k < noted) where
       here : x ≡ get_or notes (noted - 1 - k) 0

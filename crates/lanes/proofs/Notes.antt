@@ -109,6 +109,18 @@ length_latest_drop zero l = omega arith
 length_latest_drop (suc k) [] = omega arith
 length_latest_drop (suc k) (i ∷ l) = grind (arith, common_steps, length_latest i l, length_latest_drop k l)
 
+-- where the end of a log has as many last notes as all of it, they are the same
+pub latest_drop : (k : ℕ) (l : List ℕ) → length (latest (drop k l)) ≡ length (latest l) → latest (drop k l) ≡ latest l
+unfolding latest
+latest_drop zero l h = refl
+latest_drop (suc k) [] h = refl
+latest_drop (suc k) (i ∷ l) h = go (has i l) refl h (latest_drop k l)
+  where
+    go : (t : Bool) → has i l ≡ t → length (latest (drop k l)) ≡ length (cond t (latest l) (i ∷ latest l)) → (length (latest (drop k l)) ≡ length (latest l) → latest (drop k l) ≡ latest l)
+        → latest (drop k l) ≡ cond t (latest l) (i ∷ latest l)
+    go true e u m = m u
+    go false e u m = absurd (omega (arith, u, length_latest_drop k l))
+
 -- what lies at an index is one of them
 pub has_at : (l : List ℕ) (i : ℕ) → i < length l → has (get_or l i 0) l ≡ true
 unfolding has

@@ -8,7 +8,7 @@ ghost use Rattle.lanes.specs.Closing.{Listable, Lists};
 use super::Store;
 use table::PLACES;
 
-// Of the first so many notes of a log the last ones are listed: from the newest on, each slot that was not seen before is put in front of those found.
+// Of the first so many notes of a log the last ones are listed: from the newest on, each slot that was not seen before is put in front of those found, until all are.
 #[tactic(auto, using(crate::proofs::Listing::listing_end, crate::proofs::Listing::slot_of, crate::proofs::Listing::some_free, crate::proofs::Listing::free_fits))]
 fn list_last(log: &[u16], noted: usize, count: usize, last: &mut [u16])
     requires { Listable log.now noted count last.old }
@@ -24,6 +24,9 @@ fn list_last(log: &[u16], noted: usize, count: usize, last: &mut [u16])
         seen[x] = true;
         free -= 1;
         last[free] = x as u16;
+        if free == 0 {
+            return;
+        }
     }
 }
 
