@@ -18,6 +18,7 @@ unfolding fresh latest has in_order
 kept rule = record {
   slots = length-replicate most_places no_piece;
   room = omega arith;
+  keyed = λ i h. absurd (omega (arith, h));
   listed = record { few = omega arith; noted = λ i. grind (arith, nat_tests); all = refl };
   chained = λ v h. ends (rw (get_or-replicate {A = ℕ} (most_places + most_lanes) (start v) 0 0 (omega (arith, h))) (omega arith));
 }

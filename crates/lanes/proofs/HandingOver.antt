@@ -2,14 +2,14 @@
 -- Assumes nothing.
 use Rattle.std.proofs.Common.{◌≡◌, refl, sym, subst, ap, ◌∙◌, ◌≢◌, Bool, true, false, List, [], ◌∷◌, ◌++◌, ℕ, ◌+◌, ◌<◌, arith, eqb, length, set, take, length-set, eqb-true, eq-eqb}
 use Rattle.std.proofs.lemmas.Bool.Decides.{nat_tests}
-use Rattle.std.proofs.lemmas.List.{take_more_set}
+use Rattle.std.proofs.lemmas.List.{take_more_set, get_or-set_same}
 use borrow.Author.Tests.{eqb-false}
 use Rattle.table.specs.declared.Piece.{Piece}
 use Rattle.table.specs.Pieces.{hand_to}
 use Rattle.table.specs.Table.{most_places}
 use Rattle.lanes.specs.Notes.{has, without, Once}
 use Rattle.lanes.specs.Order.{at_slot, ahead, lane}
-use Rattle.lanes.specs.Chains.{start, link, Chain, foot, put_behind}
+use Rattle.lanes.specs.Chains.{start, link, behind, Chain, foot, put_behind}
 use Rattle.lanes.specs.Lanes.{most_lanes}
 use Rattle.lanes.specs.declared.Store.{Store}
 use Rattle.lanes.specs.Store.{most_notes, received, lane_of}
@@ -18,8 +18,10 @@ use Rattle.lanes.proofs.Notes.{has_without, latest_noted, once_latest, once_with
 use Rattle.lanes.proofs.Order.{not_ours}
 use Rattle.lanes.proofs.Hops.{Hop, hop, at_same, at_other, in_common}
 use Rattle.lanes.proofs.Chains.{has_first, chain_apart, chain_leave, Begins, begins}
+use Rattle.lanes.proofs.ByKeys.{keyed_same}
 use Rattle.lanes.proofs.Listing.{same_listed}
-use Rattle.lanes.proofs.Receiving.{start_in_none, received_last}
+use Rattle.lanes.proofs.InUse.{first_used}
+use Rattle.lanes.proofs.Receiving.{start_in_none, start_stays, received_last}
 
 -- a slot that is noted once more
 pub noted_last : (s s' : Store) (x : ℕ) → s.noted < length s.log → s'.log ≡ set s.log s.noted x → s'.noted ≡ s.noted + 1 → received s' ≡ without x (received s) ++ (x ∷ [])
@@ -65,17 +67,22 @@ module _ (rule v d x : ℕ) (s : Store) (h : Handing rule v d x s) (links : leng
           let n : w ≢ v = eqb-false w v e in
           rw (lane_without w n) (chain_apart (start v) (link s.next x) (h.kept.chained w q) (λ k. n (omega (arith, k))) (none w q))
 
+  used : x < s.count
+  used = first_used rule s h.kept v x lane_v.rest lane_v.is
+
   module _ (s₁ : Store) (l : Left v x s s₁) where
     pub joining : Joining rule d x s₁
     joining = record {
       listed = same_listed s s₁ h.kept.listed l.log l.noted l.count;
+      keyed = rw (l.pieces, l.keys, l.count) h.kept.keyed;
+      own = rw (l.pieces, l.keys) (h.kept.keyed x used);
       slot = h.slot;
       holder = h.destination;
       apart = λ q e. h.apart (sym ours ∙ rw l.pieces at e);
       chained = rw (l.links, l.pieces, l.log, l.noted) (rw (lane_without d (λ e. h.apart (sym e))) at (left_chains d h.destination));
     }
 
-    module _ (s₂ : Store) (j : Joined rule d x s₁ s₂) (s₄ : Store) (next_is : s₄.next ≡ s₂.next) (pieces_is : s₄.pieces ≡ set s₂.pieces x (hand_to d (at_slot s₂.pieces x)))
+    module _ (s₂ : Store) (j : Joined rule d x s₁ s₂) (s₄ : Store) (next_is : s₄.next ≡ s₂.next) (pieces_is : s₄.pieces ≡ set s₂.pieces x (hand_to d (at_slot s₂.pieces x))) (keys_is : s₄.keys ≡ s₂.keys)
         (log_is : s₄.log ≡ set s₂.log s₂.noted x) (noted_is : s₄.noted ≡ s₂.noted + 1) (count_is : s₄.count ≡ s₂.count) where
       abbrev after : List Piece
       after = set s.pieces x (hand_to d (at_slot s.pieces x))
@@ -104,8 +111,16 @@ module _ (rule v d x : ℕ) (s : Store) (h : Handing rule v d x s) (links : leng
       links_now : s₄.next ≡ put_behind x (foot (ahead rule s.pieces) x (start d) (lane rule s.pieces d (without x (received s)))) (set s.next (start v) (link s.next x))
       links_now = next_is ∙ j.links ∙ rw (l.links, l.pieces, l.log, l.noted, lane_without d (λ e. h.apart (sym e))) refl
 
-      pub handed_over : HandedOver rule d x s s₄
-      handed_over = record {
+      next_now : behind s₄.next (start v) ≡ behind s.next x
+      next_now =
+          let l : link s₄.next (start v) ≡ link s.next x = ap (λ n. link n (start v)) links_now
+          ∙ start_stays rule s.pieces (without x (received s)) (set s.next (start v) (link s.next x)) left_chains v d x h.apart h.destination h.slot
+          ∙ get_or-set_same s.next (start v) (link s.next x) 0 (omega (arith, links, h.source)) in
+          rw l refl
+
+      pub handed_over : (y : ℕ) → y ≡ behind s.next x → HandedOver rule v d x s s₄ y
+      handed_over y e = record {
+        next = e ∙ sym next_now;
         kept = record {
           slots = rw pieces_now (length-set s.pieces x _ ∙ h.kept.slots);
           room = omega (arith, noted_now, h.room);
@@ -114,6 +129,7 @@ module _ (rule v d x : ℕ) (s : Store) (h : Handing rule v d x s) (links : leng
             noted = λ i. rw (order_now, count_now) (moved.same_slots i ∙ h.kept.listed.noted i);
             all = rw (order_now, count_now) (moved.as_many ∙ h.kept.listed.all);
           };
+          keyed = λ i q. rw (pieces_now, keys_is, j.keys, l.keys) (keyed_same rule s.pieces s.keys after born i (h.kept.keyed i (rw count_now at q)));
           chained = λ w q. rw (links_now, pieces_now, order_now) (received_last rule s.pieces (without x (received s)) (set s.next (start v) (link s.next x)) left_chains after x same born
               h.slot (has_without x x (received s) ∙ rw (eq-eqb x x refl) refl) (once_without x (received s) once) (length-set s.next (start v) (link s.next x) ∙ links) d (ap (λ (p : Piece). p.holder) there) h.destination w q);
         };

@@ -1,4 +1,4 @@
--- Whole pieces are handed over in a loop. The invariant: memory is in order, what is left of the move from here on does what the move does, and there is a note left for every piece
+-- Whole pieces are handed over in a loop. The invariant: memory is in order, x is the first of the source's lane or tells that there is none, what is left of the move from here on does what the move does, and there is a note left for every piece
 -- that may still go.
 -- Assumes nothing.
 use Rattle.std.proofs.Common.{◌≡◌, refl, sym, ap, ◌∙◌, ◌≢◌, List, [], ◌∷◌, ℕ, ◌+◌, ◌-◌, ◌≤◌, ◌<◌, arith, length, eqb, take}
@@ -26,8 +26,9 @@ unfolding remains
 remains_agrees ps ps' e want [] = refl
 remains_agrees ps ps' e want (i ∷ l) = rw (e i, remains_agrees ps ps' e (want - (at_slot ps i).weight) l) refl
 
-pub record Handed (rule : ℕ) (m : Move) (s₀ s : Store) (whole left : ℕ) : Type 0 where
+pub record Handed (rule : ℕ) (m : Move) (s₀ s : Store) (whole left x : ℕ) : Type 0 where
   pub kept : Kept rule s
+  pub first : x ≡ behind s.next (start m.source)
   pub goes : Goes rule m s₀.pieces (received s₀) s.pieces (received s) whole left
   pub count : s.count ≡ s₀.count
   pub wanted : remains s₀.pieces m.weight (lane_of rule s₀ m.source) ≡ remains s.pieces left (lane_of rule s m.source)
@@ -35,11 +36,12 @@ pub record Handed (rule : ℕ) (m : Move) (s₀ s : Store) (whole left : ℕ) : 
   pub few : whole + length (lane_of rule s m.source) ≤ most_places
 
 module _ (rule : ℕ) (m : Move) (s₀ : Store) (g : Going rule m s₀) where
-  pub handed_start : Handed rule m s₀ s₀ 0 m.weight
-  handed_start =
+  pub handed_start : (x : ℕ) → x ≡ behind s₀.next (start m.source) → Handed rule m s₀ s₀ 0 m.weight x
+  handed_start x e =
       let n = length_in_order (ahead rule s₀.pieces) (λ i. eqb (at_slot s₀.pieces i).holder m.source) (received s₀) in
       record {
         kept = g.kept;
+        first = e;
         goes = goes_start rule m s₀.pieces (received s₀);
         count = refl;
         wanted = refl;
@@ -47,7 +49,7 @@ module _ (rule : ℕ) (m : Move) (s₀ : Store) (g : Going rule m s₀) where
         few = omega (arith, n, g.kept.listed.all, g.kept.listed.few);
       }
 
-  module _ (s : Store) (whole left : ℕ) (h : Handed rule m s₀ s whole left) where
+  module _ (s : Store) (whole left x : ℕ) (h : Handed rule m s₀ s whole left x) where
     chain : Chain s.next (start m.source) (lane_of rule s m.source)
     chain = h.kept.chained m.source g.source
 
@@ -69,40 +71,45 @@ module _ (rule : ℕ) (m : Move) (s₀ : Store) (g : Going rule m s₀) where
     unfolding remains
     empty e = rw (none_behind chain e) refl
 
-    pub gone_all : (left ≢ 0 → most_places ≤ behind s.next (start m.source)) → Gone rule m s₀ s (record { whole = whole; left = left })
-    gone_all e = gone (λ some. empty (e some)) (λ some inside. absurd (omega (arith, e some, inside)))
+    none_left : (left ≢ 0 → most_places ≤ behind s.next (start m.source)) → Gone rule m s₀ s (record { whole = whole; left = left })
+    none_left e = gone (λ some. empty (e some)) (λ some inside. absurd (omega (arith, e some, inside)))
+
+    pub gone_all : (left ≢ 0 → most_places ≤ x) → Gone rule m s₀ s (record { whole = whole; left = left })
+    gone_all e = none_left (λ some. omega (arith, e some, h.first))
 
     heavy_behind : (l : List ℕ) → Chain s.next (start m.source) l → left < (at_slot s.pieces (behind s.next (start m.source))).weight → remains s.pieces left l ≡ left
     unfolding remains
     heavy_behind [] c e = refl
     heavy_behind (y ∷ l) (leads b q c) e = rw (lt-leb (at_slot s.pieces y).weight left (rw b at e)) refl
 
-    pub gone_whole : left < (at_slot s.pieces (behind s.next (start m.source))).weight → Gone rule m s₀ s (record { whole = whole; left = left })
-    gone_whole q = gone (λ some. heavy_behind (lane_of rule s m.source) chain q) (λ some inside. q)
+    pub gone_whole : left < (at_slot s.pieces x).weight → Gone rule m s₀ s (record { whole = whole; left = left })
+    gone_whole q =
+        let u : left < (at_slot s.pieces (behind s.next (start m.source))).weight = rw (← h.first) q in
+        gone (λ some. heavy_behind (lane_of rule s m.source) chain u) (λ some inside. u)
 
     pub gone_last : whole ≡ most_places → Gone rule m s₀ s (record { whole = most_places; left = left })
-    gone_last q = rw (← q) (gone_all (λ some. go (lane_of rule s m.source) chain h.few))
+    gone_last q = rw (← q) (none_left (λ some. go (lane_of rule s m.source) chain h.few))
       where
         go : (l : List ℕ) → Chain s.next (start m.source) l → whole + length l ≤ most_places → most_places ≤ behind s.next (start m.source)
         go [] (ends e) k = e
         go (y ∷ l) c k = absurd (omega (arith, k, q))
 
     -- one more goes whole
-    module _ (x : ℕ) (first : x ≡ behind s.next (start m.source)) (inside : x < most_places) where
+    module _ (inside : x < most_places) where
       line : Begins x (lane_of rule s m.source)
-      line = begins x chain (sym first) inside
+      line = begins x chain (sym h.first) inside
 
       pub can_hand : Handing rule m.source m.destination x s
-      can_hand = record { kept = h.kept; source = g.source; destination = g.destination; apart = g.apart; first = sym first; slot = inside; room = omega (arith, h.room) }
+      can_hand = record { kept = h.kept; source = g.source; destination = g.destination; apart = g.apart; first = sym h.first; slot = inside; room = omega (arith, h.room) }
 
       -- the slot is passed
       passed : (at_slot s.pieces x).weight ≤ left → (l : List ℕ) → remains s.pieces left (x ∷ l) ≡ remains s.pieces (left - (at_slot s.pieces x).weight) l
       unfolding remains
       passed light l = rw (le-leb (at_slot s.pieces x).weight left light) refl
 
-      pub handed_on : left ≢ 0 → (at_slot s.pieces x).weight ≤ left → (s' : Store) → HandedOver rule m.destination x s s'
-          → Handed rule m s₀ s' (whole + 1) (left - (at_slot s.pieces x).weight)
-      handed_on some light s' o =
+      pub handed_on : left ≢ 0 → (at_slot s.pieces x).weight ≤ left → (s' : Store) (y : ℕ) → HandedOver rule m.source m.destination x s s' y
+          → Handed rule m s₀ s' (whole + 1) (left - (at_slot s.pieces x).weight) y
+      handed_on some light s' y o =
           let once = once_latest (take s.noted s.log) in
           let q : x < length s.pieces = omega (arith, inside, h.kept.slots) in
           let from = (hop rule s.pieces (received s) m.source m.destination x line.rest once g.apart q line.is).from in
@@ -110,6 +117,7 @@ module _ (rule : ℕ) (m : Move) (s₀ : Store) (g : Going rule m s₀) where
           let weights = in_common s.pieces x (hand_to m.destination (at_slot s.pieces x)) (λ p. p.weight) q refl in
           record {
             kept = o.kept;
+            first = o.next;
             goes = rw (o.pieces, o.order) (goes_on rule m s₀.pieces (received s₀) g.apart s.pieces (received s) whole left h.goes x line.rest once q line.is some light);
             count = o.count ∙ h.count;
             wanted = h.wanted ∙ rw (line.is, o.pieces, o.order, from) (passed light line.rest ∙ sym (remains_agrees s.pieces (hopped m.destination x s.pieces) weights (left - (at_slot s.pieces x).weight) line.rest));

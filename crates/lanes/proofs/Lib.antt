@@ -1,10 +1,12 @@
 pub mod Notes
 pub mod Order
 pub mod Hops
+pub mod ByKeys
 pub mod Chains
 pub mod Along
 pub mod Joining
 pub mod Listing
+pub mod InUse
 pub mod Receiving
 pub mod HandingOver
 pub mod Adding

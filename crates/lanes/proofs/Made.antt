@@ -1,8 +1,7 @@
 -- A move is made: once whole pieces have gone, what is left is split off the next piece, or born, or there is nothing left. Before it the log is closed, where it might have no room.
 -- Assumes nothing.
-use Rattle.std.proofs.Common.{◌≡◌, refl, sym, ap, ◌∙◌, ◌≢◌, true, false, List, ◌∷◌, ℕ, ◌-◌, ◌≤◌, ◌<◌, arith, length, eqb, set, take, length-set, ltb-true}
+use Rattle.std.proofs.Common.{◌≡◌, refl, sym, ap, ◌∙◌, ◌≢◌, ℕ, ◌-◌, ◌≤◌, ◌<◌, arith, length, set, take, length-set}
 use Rattle.std.proofs.lemmas.Bool.Decides.{nat_tests}
-use lib.ListN.{length-map}
 use Rattle.table.specs.declared.Piece.{Piece}
 use Rattle.table.specs.Pieces.{of_weight, hand_to}
 use Rattle.table.specs.Table.{most_places}
@@ -10,17 +9,19 @@ use Rattle.taking.specs.declared.Move.{Move}
 use Rattle.taking.specs.Taking.{newborn, taken, handed}
 use Rattle.taking.specs.Stirring.{stirred_rule}
 use Rattle.picking.specs.declared.plan.Plan.{Plan}
-use Rattle.lanes.specs.Notes.{has, latest, Once}
-use Rattle.lanes.specs.Order.{at_slot, ahead}
+use Rattle.lanes.specs.Notes.{latest, Once}
+use Rattle.lanes.specs.Order.{at_slot}
+use Rattle.lanes.specs.Keys.{last_minute}
 use Rattle.lanes.specs.Chains.{start, behind, Chain}
 use Rattle.lanes.specs.declared.Store.{Store}
 use Rattle.lanes.specs.Store.{received, pieces_in, lane_of, Kept}
 use Rattle.lanes.specs.Steps.{Closed, Addable, Added}
 use Rattle.lanes.specs.Moving.{Going, Gone, Splitting, SplitOff, Made, Roomy}
 use Rattle.lanes.proofs.Notes.{latest_latest, once_latest, Among, among}
-use Rattle.lanes.proofs.Order.{members}
-use Rattle.lanes.proofs.Hops.{Reweighed, reweighed}
+use Rattle.lanes.proofs.Hops.{Reweighed, reweighed, in_common}
+use Rattle.lanes.proofs.ByKeys.{keyed_same}
 use Rattle.lanes.proofs.Listing.{same_listed}
+use Rattle.lanes.proofs.InUse.{first_used, next_unused, length_pieces_in}
 use Rattle.lanes.proofs.Chains.{Begins, begins, none_behind}
 use Rattle.lanes.proofs.OneByOne.{Ended, ends_even, ends_split, ends_born}
 
@@ -30,6 +31,7 @@ roomy rule s s' k c = record {
   kept = record {
     slots = rw c.pieces k.slots;
     room = omega (arith, c.noted, k.listed.few);
+    keyed = rw (c.pieces, c.keys, c.count) k.keyed;
     listed = record { few = rw c.count k.listed.few; noted = rw (order, c.count) k.listed.noted; all = rw (order, c.count) k.listed.all };
     chained = rw (order, c.links, c.pieces) k.chained;
   };
@@ -42,44 +44,34 @@ roomy rule s s' k c = record {
     order : received s' ≡ received s
     order = ap latest c.log ∙ latest_latest (take s.noted s.log)
 
--- the slots of a lane are in use, and no other is
-module _ (rule : ℕ) (s : Store) (k : Kept rule s) where
-  pub first_used : (v x : ℕ) (l : List ℕ) → lane_of rule s v ≡ x ∷ l → x < s.count
-  unfolding has
-  first_used v x l e =
-      let m = members (ahead rule s.pieces) (λ i. eqb (at_slot s.pieces i).holder v) x (received s) in
-      let h : has x (lane_of rule s v) ≡ true = ap (has x) e ∙ grind (arith, nat_tests) in
-      ltb-true x s.count (sym (k.listed.noted x) ∙ grind (arith, nat_tests, m, h))
-
-  pub next_unused : has s.count (received s) ≡ false
-  next_unused = k.listed.noted s.count ∙ grind (arith, nat_tests)
-
-  pub length_pieces_in : length (pieces_in s) ≡ s.count
-  length_pieces_in = rw length-map k.listed.all
-
 -- a piece gives a part
 module _ (rule d x weight : ℕ) (s : Store) (h : Splitting rule d x weight s) where
   abbrev part : Piece
   part = hand_to d (of_weight weight (at_slot s.pieces x))
 
+  there : x < length s.pieces
+  there = omega (arith, h.used, h.place, h.kept.slots)
+
   lies : Among x (received s)
   lies = among x (received s) (h.kept.listed.noted x ∙ grind (arith, nat_tests, h.used))
 
   lighter : Reweighed rule s.pieces (set s.pieces x (of_weight ((at_slot s.pieces x).weight - weight) (at_slot s.pieces x))) (received s) lies.before x lies.after ((at_slot s.pieces x).weight - weight)
-  lighter = reweighed rule s.pieces (received s) lies.before x lies.after ((at_slot s.pieces x).weight - weight) (once_latest (take s.noted s.log)) lies.lies (omega (arith, h.used, h.place, h.kept.slots))
+  lighter = reweighed rule s.pieces (received s) lies.before x lies.after ((at_slot s.pieces x).weight - weight) (once_latest (take s.noted s.log)) lies.lies there
 
   module _ (s₁ : Store) (pieces_is : s₁.pieces ≡ set s.pieces x (of_weight ((at_slot s.pieces x).weight - weight) (at_slot s.pieces x))) (next_is : s₁.next ≡ s.next)
-      (log_is : s₁.log ≡ s.log) (noted_is : s₁.noted ≡ s.noted) (count_is : s₁.count ≡ s.count) where
+      (log_is : s₁.log ≡ s.log) (noted_is : s₁.noted ≡ s.noted) (count_is : s₁.count ≡ s.count) (keys_is : s₁.keys ≡ s.keys) where
     pub part_addable : Addable rule part s₁
     part_addable = record {
       kept = record {
         slots = rw pieces_is (length-set s.pieces x _ ∙ h.kept.slots);
         room = rw noted_is h.kept.room;
         listed = same_listed s s₁ h.kept.listed log_is noted_is count_is;
+        keyed = λ i q. rw (pieces_is, keys_is) (keyed_same rule s.pieces s.keys _ (in_common s.pieces x _ (λ p. p.birth) there refl) i (h.kept.keyed i (rw count_is at q)));
         chained = λ v q. rw (next_is, pieces_is, log_is, noted_is, lighter.lanes v) (h.kept.chained v q);
       };
       place = rw count_is h.place;
       holder = h.destination;
+      birth = (h.kept.keyed x h.used).small;
       room = rw noted_is h.room;
     }
 
@@ -113,8 +105,8 @@ module _ (rule : ℕ) (m : Move) (s : Store) (g : Going rule m s) (first : rule 
     inside : s₁.count < length s₁.pieces
     inside = omega (arith, o.place some, o.kept.slots)
 
-    pub can_bear : Addable rule (newborn m plan.left) s₁
-    can_bear = record { kept = o.kept; place = o.place some; holder = g.destination; room = o.room }
+    pub can_bear : m.birth ≤ last_minute → Addable rule (newborn m plan.left) s₁
+    can_bear b = record { kept = o.kept; place = o.place some; holder = g.destination; birth = b; room = o.room }
 
     pub made_born : most_places ≤ behind s₁.next (start m.source) → (s₂ : Store) → Added rule (newborn m plan.left) s₁ s₂
         → Made rule m s s₂ (record { whole = plan.whole; split = 0; born = plan.left; count = s₂.count })

@@ -1,5 +1,6 @@
 pub mod Lanes
 pub mod Order
+pub mod Keys
 pub mod Notes
 pub mod Chains
 pub mod Store

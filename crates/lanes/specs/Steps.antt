@@ -8,6 +8,7 @@ use Rattle.lanes.specs.declared.Store.{Store}
 use Rattle.lanes.specs.Lanes.{most_lanes}
 use Rattle.lanes.specs.Notes.{without}
 use Rattle.lanes.specs.Order.{at_slot, ahead}
+use Rattle.lanes.specs.Keys.{last_minute, Keyed}
 use Rattle.lanes.specs.Chains.{start, link, behind, Chain, foot, put_behind}
 use Rattle.lanes.specs.Store.{received, lane_of, Listed, Kept, most_notes}
 
@@ -21,6 +22,8 @@ pub record Leads (f : ℕ) (s : Store) : Type 0 where
 -- Slot x can join the lane of holder d: it is in use elsewhere, or not yet.
 pub record Joining (rule d x : ℕ) (s : Store) : Type 0 where
   pub listed : Listed s
+  pub keyed : (i : ℕ) → i < s.count → Keyed rule s.pieces s.keys i
+  pub own : Keyed rule s.pieces s.keys x
   pub slot : x < most_places
   pub holder : d < most_lanes
   pub apart : x < s.count → (at_slot s.pieces x).holder ≢ d
@@ -38,6 +41,7 @@ pub record Foot (rule d x : ℕ) (s : Store) (f : ℕ) : Type 0 where
 pub record Joined (rule d x : ℕ) (s s' : Store) : Type 0 where
   pub links : s'.next ≡ put_behind x (foot_of rule d x s) s.next
   pub pieces : s'.pieces ≡ s.pieces
+  pub keys : s'.keys ≡ s.keys
   pub log : s'.log ≡ s.log
   pub noted : s'.noted ≡ s.noted
   pub count : s'.count ≡ s.count
@@ -46,6 +50,7 @@ pub record Joined (rule d x : ℕ) (s s' : Store) : Type 0 where
 pub record Left (v x : ℕ) (s s' : Store) : Type 0 where
   pub links : s'.next ≡ set s.next (start v) (link s.next x)
   pub pieces : s'.pieces ≡ s.pieces
+  pub keys : s'.keys ≡ s.keys
   pub log : s'.log ≡ s.log
   pub noted : s'.noted ≡ s.noted
   pub count : s'.count ≡ s.count
@@ -56,6 +61,7 @@ pub record Noted (x : ℕ) (s s' : Store) : Type 0 where
   pub noted : s'.noted ≡ s.noted + 1
   pub links : s'.next ≡ s.next
   pub pieces : s'.pieces ≡ s.pieces
+  pub keys : s'.keys ≡ s.keys
   pub count : s'.count ≡ s.count
 
 -- The log is closed: its notes are the last ones that it had.
@@ -64,6 +70,7 @@ pub record Closed (s s' : Store) : Type 0 where
   pub noted : s'.noted ≡ s.count
   pub links : s'.next ≡ s.next
   pub pieces : s'.pieces ≡ s.pieces
+  pub keys : s'.keys ≡ s.keys
   pub count : s'.count ≡ s.count
 
 -- The pieces can be written: the notes of a closed log are the order of receipt.
@@ -81,8 +88,9 @@ pub record Handing (rule v d x : ℕ) (s : Store) : Type 0 where
   pub slot : x < most_places
   pub room : s.noted < most_notes
 
--- It has gone.
-pub record HandedOver (rule d x : ℕ) (s s' : Store) : Type 0 where
+-- It has gone, and y is the next in the lane that it left, or the end of it.
+pub record HandedOver (rule v d x : ℕ) (s s' : Store) (y : ℕ) : Type 0 where
+  pub next : y ≡ behind s'.next (start v)
   pub kept : Kept rule s'
   pub pieces : s'.pieces ≡ set s.pieces x (hand_to d (at_slot s.pieces x))
   pub order : received s' ≡ without x (received s) ++ (x ∷ [])
@@ -94,6 +102,7 @@ pub record Addable (rule : ℕ) (p : Piece) (s : Store) : Type 0 where
   pub kept : Kept rule s
   pub place : s.count < most_places
   pub holder : p.holder < most_lanes
+  pub birth : p.birth ≤ last_minute
   pub room : s.noted < most_notes
 
 pub record Added (rule : ℕ) (p : Piece) (s s' : Store) : Type 0 where

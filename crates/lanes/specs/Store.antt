@@ -8,6 +8,7 @@ use Rattle.lanes.specs.declared.Store.{Store}
 use Rattle.lanes.specs.Lanes.{most_lanes}
 use Rattle.lanes.specs.Notes.{has, latest}
 use Rattle.lanes.specs.Order.{pieces_at, lane}
+use Rattle.lanes.specs.Keys.{Keyed}
 use Rattle.lanes.specs.Chains.{start, Chain}
 
 -- as many notes fit in the log
@@ -18,6 +19,7 @@ most_notes = 16384
 unfoldable pub fresh : Store
 fresh = record {
   pieces = replicate most_places no_piece;
+  keys = replicate most_places 0;
   next = replicate (most_places + most_lanes) 0;
   hints = replicate most_lanes 0;
   log = replicate most_notes 0;
@@ -44,9 +46,10 @@ pub record Listed (s : Store) : Type 0 where
   pub noted : (i : ℕ) → has i (received s) ≡ ltb i s.count
   pub all : length (received s) ≡ s.count
 
--- Memory in order, under a rule: slots are noted, and each lane lies from its start on. Nothing is asked of hints.
+-- Memory in order, under a rule: slots are noted, those in use have their keys, and each lane lies from its start on. Nothing is asked of hints.
 pub record Kept (rule : ℕ) (s : Store) : Type 0 where
   pub slots : length s.pieces ≡ most_places
   pub room : s.noted ≤ most_notes
   pub listed : Listed s
+  pub keyed : (i : ℕ) → i < s.count → Keyed rule s.pieces s.keys i
   pub chained : (v : ℕ) → v < most_lanes → Chain s.next (start v) (lane_of rule s v)

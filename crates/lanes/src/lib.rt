@@ -14,6 +14,7 @@ use std::marker::Model;
 use table::{PLACES, Piece};
 use taking::Move;
 
+mod keys; // keys.rt: the picking order by numbers
 mod links; // links.rt: the lanes, each a chain of slots
 mod log; // log.rt: the order of receipt
 mod moves; // moves.rt: a move, step by step
@@ -29,10 +30,11 @@ const LINKS: usize = PLACES + LANES;
 const NOTES: usize = 16384;
 
 // A slot holds one piece for good: pieces never become fewer. Each holder's slots lie in a lane in picking order, and the log tells the order of receipt: a
-// slot's last note is its place in it. Where a slot may join a lane soon is a hint.
+// slot's last note is its place in it. A slot's key tells whether it goes before another. Where a slot may join a lane soon is a hint.
 #[derive(Drop)]
 struct Store {
     pieces: [Piece; PLACES],
+    keys: [u32; PLACES],
     next: [u16; LINKS],
     hints: [u16; LANES],
     log: [u16; NOTES],
@@ -55,6 +57,7 @@ impl Store {
         };
         Store {
             pieces: [none; PLACES],
+            keys: [0; PLACES],
             next: [0; LINKS],
             hints: [0; LANES],
             log: [0; NOTES],

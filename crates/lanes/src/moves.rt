@@ -43,8 +43,8 @@ impl Store {
         ensures { Gone rule m self.old self.new result }
     {
         let mut left = m.weight;
+        let mut x = self.behind(PLACES + m.source as usize);
         for whole in 0..PLACES {
-            let x = self.behind(PLACES + m.source as usize);
             if left == 0 || PLACES <= x {
                 return Plan { whole, left };
             }
@@ -53,7 +53,7 @@ impl Store {
                 return Plan { whole, left };
             }
             left -= weight;
-            self.hand_over(rule, m.source, m.destination, x);
+            x = self.hand_over(rule, m.source, m.destination, x);
         }
         Plan {
             whole: PLACES,
