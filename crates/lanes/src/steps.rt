@@ -5,7 +5,7 @@ use super::{Store, keys};
 use table::Piece;
 
 impl Store {
-    // The piece in slot x, the first in the lane of holder s, goes to holder d: the answer is what is then the first, or PLACES where nothing is.
+    // The piece in slot x, the first in the lane of holder s, goes to holder d: the answer is what is then the first, or a number that is no slot.
     pub(crate) fn hand_over(&mut self, rule: u32, s: u32, d: u32, x: usize) -> usize
         requires { Handing rule s d x self.old }
         ensures { HandedOver rule s d x self.old self.new result }
