@@ -20,7 +20,7 @@ kept rule = record {
   room = omega arith;
   keyed = λ i h. absurd (omega (arith, h));
   listed = record { few = omega arith; noted = λ i. grind (arith, nat_tests); all = refl };
-  chained = λ v h. ends (rw (get_or-replicate {A = ℕ} (most_places + most_lanes) (start v) 0 0 (omega (arith, h))) (omega arith));
+  chained = λ v h. ends (get_or-replicate {A = ℕ} (most_places + most_lanes) (start v) 0 0 (omega (arith, h)));
 }
 
 pub fresh_order : (rule : ℕ) → rule < stirred_rule → InOrder rule fresh

@@ -9,7 +9,7 @@ use Rattle.table.specs.Pieces.{hand_to}
 use Rattle.table.specs.Table.{most_places}
 use Rattle.lanes.specs.Notes.{has, without, Once}
 use Rattle.lanes.specs.Order.{at_slot, ahead, lane}
-use Rattle.lanes.specs.Chains.{start, link, behind, Chain, foot, put_behind}
+use Rattle.lanes.specs.Chains.{start, link, Chain, foot, put_behind}
 use Rattle.lanes.specs.Lanes.{most_lanes}
 use Rattle.lanes.specs.declared.Store.{Store}
 use Rattle.lanes.specs.Store.{most_notes, received, lane_of}
@@ -33,7 +33,7 @@ module _ (rule v d x : ℕ) (s : Store) (h : Handing rule v d x s) (links : leng
   once = once_latest (take s.noted s.log)
 
   lane_v : Begins x (lane_of rule s v)
-  lane_v = begins x (h.kept.chained v h.source) h.first h.slot
+  lane_v = begins x (h.kept.chained v h.source) h.first
 
   moved : Hop rule s.pieces (set s.pieces x (hand_to d (at_slot s.pieces x))) (received s) (without x (received s) ++ (x ∷ [])) v d x lane_v.rest
   moved = hop rule s.pieces (received s) v d x lane_v.rest once h.apart (omega (arith, h.slot, h.kept.slots)) lane_v.is
@@ -111,15 +111,14 @@ module _ (rule v d x : ℕ) (s : Store) (h : Handing rule v d x s) (links : leng
       links_now : s₄.next ≡ put_behind x (foot (ahead rule s.pieces) x (start d) (lane rule s.pieces d (without x (received s)))) (set s.next (start v) (link s.next x))
       links_now = next_is ∙ j.links ∙ rw (l.links, l.pieces, l.log, l.noted, lane_without d (λ e. h.apart (sym e))) refl
 
-      next_now : behind s₄.next (start v) ≡ behind s.next x
+      next_now : link s₄.next (start v) ≡ link s.next x
       next_now =
-          let l : link s₄.next (start v) ≡ link s.next x = ap (λ n. link n (start v)) links_now
+          ap (λ n. link n (start v)) links_now
           ∙ start_stays rule s.pieces (without x (received s)) (set s.next (start v) (link s.next x)) left_chains v d x h.apart h.destination h.slot
-          ∙ get_or-set_same s.next (start v) (link s.next x) 0 (omega (arith, links, h.source)) in
-          rw l refl
+          ∙ get_or-set_same s.next (start v) (link s.next x) 0 (omega (arith, links, h.source))
 
-      pub handed_over : (y : ℕ) → y ≡ behind s.next x → HandedOver rule v d x s s₄ y
-      handed_over y e = record {
+      pub handed_over : (n : ℕ) → n ≡ link s.next x → HandedOver rule v d x s s₄ n
+      handed_over n e = record {
         next = e ∙ sym next_now;
         kept = record {
           slots = rw pieces_now (length-set s.pieces x _ ∙ h.kept.slots);

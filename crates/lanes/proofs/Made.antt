@@ -1,10 +1,9 @@
 -- A move is made: once whole pieces have gone, what is left is split off the next piece, or born, or there is nothing left. Before it the log is closed, where it might have no room.
 -- Assumes nothing.
-use Rattle.std.proofs.Common.{◌≡◌, refl, sym, ap, ◌∙◌, ◌≢◌, ℕ, ◌-◌, ◌≤◌, ◌<◌, arith, length, set, take, length-set}
+use Rattle.std.proofs.Common.{◌≡◌, refl, sym, ap, ◌∙◌, ◌≢◌, ℕ, ◌+◌, ◌-◌, ◌≤◌, ◌<◌, arith, length, set, take, length-set}
 use Rattle.std.proofs.lemmas.Bool.Decides.{nat_tests}
 use Rattle.table.specs.declared.Piece.{Piece}
 use Rattle.table.specs.Pieces.{of_weight, hand_to}
-use Rattle.table.specs.Table.{most_places}
 use Rattle.taking.specs.declared.Move.{Move}
 use Rattle.taking.specs.Taking.{newborn, taken, handed}
 use Rattle.taking.specs.Stirring.{stirred_rule}
@@ -12,7 +11,7 @@ use Rattle.picking.specs.declared.plan.Plan.{Plan}
 use Rattle.lanes.specs.Notes.{latest, Once}
 use Rattle.lanes.specs.Order.{at_slot}
 use Rattle.lanes.specs.Keys.{last_minute}
-use Rattle.lanes.specs.Chains.{start, behind, Chain}
+use Rattle.lanes.specs.Chains.{start, link, Chain}
 use Rattle.lanes.specs.declared.Store.{Store}
 use Rattle.lanes.specs.Store.{received, pieces_in, lane_of, Kept}
 use Rattle.lanes.specs.Steps.{Closed, Addable, Added}
@@ -108,20 +107,26 @@ module _ (rule : ℕ) (m : Move) (s : Store) (g : Going rule m s) (first : rule 
     pub can_bear : m.birth ≤ last_minute → Addable rule (newborn m plan.left) s₁
     can_bear b = record { kept = o.kept; place = o.place some; holder = g.destination; birth = b; room = o.room }
 
-    pub made_born : most_places ≤ behind s₁.next (start m.source) → (s₂ : Store) → Added rule (newborn m plan.left) s₁ s₂
+    pub made_born : link s₁.next (start m.source) ≡ 0 → (s₂ : Store) → Added rule (newborn m plan.left) s₁ s₂
         → Made rule m s s₂ (record { whole = plan.whole; split = 0; born = plan.left; count = s₂.count })
     made_born q s₂ a =
         let e = ends_born rule m s.pieces (received s) g.apart s₁.pieces (received s₁) plan.whole plan.left o.goes first (none_behind chain q) some s₁.count (next_unused rule s₁ o.kept) inside in
         made s₂ 0 plan.left a.kept (rw (a.pieces, a.order) e)
 
-    module _ (x : ℕ) (is : x ≡ behind s₁.next (start m.source)) (q : x < most_places) where
+    module _ (n : ℕ) (is : n ≡ link s₁.next (start m.source)) (there_is : n ≢ 0) where
+      abbrev x : ℕ
+      x = n - 1
+
+      leads_on : link s₁.next (start m.source) ≡ x + 1
+      leads_on = omega (arith, is, there_is)
+
       line : Begins x (lane_of rule s₁ m.source)
-      line = begins x chain (sym is) q
+      line = begins x chain leads_on
 
       heavy : plan.left < (at_slot s₁.pieces x).weight
-      heavy = rw is (o.heavier some (rw is at q))
+      heavy = o.heavier some x leads_on
 
-      pub can_split : Splitting rule m.destination x plan.left s₁
+      pub can_split : Splitting rule m.destination (n - 1) plan.left s₁
       can_split = record {
         kept = o.kept;
         used = first_used rule s₁ o.kept m.source x line.rest line.is;
@@ -131,8 +136,8 @@ module _ (rule : ℕ) (m : Move) (s : Store) (g : Going rule m s) (first : rule 
         room = o.room;
       }
 
-      pub made_split : (s₂ : Store) → SplitOff rule m.destination x plan.left s₁ s₂ → Made rule m s s₂ (record { whole = plan.whole; split = 1; born = 0; count = s₂.count })
+      pub made_split : (s₂ : Store) → SplitOff rule m.destination (n - 1) plan.left s₁ s₂ → Made rule m s s₂ (record { whole = plan.whole; split = 1; born = 0; count = s₂.count })
       made_split s₂ a =
-          let e = ends_split rule m s.pieces (received s) g.apart s₁.pieces (received s₁) plan.whole plan.left o.goes first x line.rest once (omega (arith, q, o.kept.slots)) line.is some heavy
+          let e = ends_split rule m s.pieces (received s) g.apart s₁.pieces (received s₁) plan.whole plan.left o.goes first x line.rest once (omega (arith, line.inside, o.kept.slots)) line.is some heavy
           s₁.count (next_unused rule s₁ o.kept) inside in
           made s₂ 1 0 a.kept (rw (a.pieces, a.order) e)

@@ -12,7 +12,7 @@ use Rattle.moving.specs.Applied.{accepted}
 use Rattle.lanes.specs.declared.Store.{Store}
 use Rattle.lanes.specs.Lanes.{most_lanes}
 use Rattle.lanes.specs.Order.{at_slot}
-use Rattle.lanes.specs.Chains.{start, behind}
+use Rattle.lanes.specs.Chains.{start, link}
 use Rattle.lanes.specs.Store.{most_notes, received, pieces_in, lane_of, Kept}
 use Rattle.lanes.specs.Walk.{remains, Goes}
 
@@ -29,7 +29,7 @@ pub record Going (rule : ℕ) (m : Move) (s : Store) : Type 0 where
 pub record Gone (rule : ℕ) (m : Move) (s s' : Store) (plan : Plan) : Type 0 where
   pub kept : Kept rule s'
   pub goes : Goes rule m s.pieces (received s) s'.pieces (received s') plan.whole plan.left
-  pub heavier : plan.left ≢ 0 → behind s'.next (start m.source) < most_places → plan.left < (at_slot s'.pieces (behind s'.next (start m.source))).weight
+  pub heavier : plan.left ≢ 0 → (x : ℕ) → link s'.next (start m.source) ≡ x + 1 → plan.left < (at_slot s'.pieces x).weight
   pub place : plan.left ≢ 0 → s'.count < most_places
   pub room : s'.noted < most_notes
   pub count : s'.count ≡ s.count

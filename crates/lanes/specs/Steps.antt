@@ -9,7 +9,7 @@ use Rattle.lanes.specs.Lanes.{most_lanes}
 use Rattle.lanes.specs.Notes.{without}
 use Rattle.lanes.specs.Order.{at_slot, ahead}
 use Rattle.lanes.specs.Keys.{last_minute, Keyed}
-use Rattle.lanes.specs.Chains.{start, link, behind, Chain, foot, put_behind}
+use Rattle.lanes.specs.Chains.{start, link, Chain, foot, put_behind}
 use Rattle.lanes.specs.Store.{received, lane_of, Listed, Kept, most_notes}
 
 -- From place f on lies a chain, of no more slots than there are.
@@ -84,13 +84,13 @@ pub record Handing (rule v d x : ℕ) (s : Store) : Type 0 where
   pub source : v < most_lanes
   pub destination : d < most_lanes
   pub apart : v ≢ d
-  pub first : behind s.next (start v) ≡ x
+  pub first : link s.next (start v) ≡ x + 1
   pub slot : x < most_places
   pub room : s.noted < most_notes
 
--- It has gone, and y is the next in the lane that it left, or the end of it.
-pub record HandedOver (rule v d x : ℕ) (s s' : Store) (y : ℕ) : Type 0 where
-  pub next : y ≡ behind s'.next (start v)
+-- It has gone, and n is what then leads from the start of the lane that it left.
+pub record HandedOver (rule v d x : ℕ) (s s' : Store) (n : ℕ) : Type 0 where
+  pub next : n ≡ link s'.next (start v)
   pub kept : Kept rule s'
   pub pieces : s'.pieces ≡ set s.pieces x (hand_to d (at_slot s.pieces x))
   pub order : received s' ≡ without x (received s) ++ (x ∷ [])

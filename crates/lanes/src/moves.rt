@@ -23,10 +23,11 @@ impl Store {
         let mut left = want;
         let mut f = PLACES + s as usize;
         for _ in 0..PLACES {
-            let x = self.behind(f);
-            if PLACES <= x {
+            let link = self.next[f] as usize;
+            if link == 0 {
                 return left;
             }
+            let x = link - 1;
             let weight = self.pieces[x].weight;
             if left < weight {
                 return left;
@@ -43,17 +44,18 @@ impl Store {
         ensures { Gone rule m self.old self.new result }
     {
         let mut left = m.weight;
-        let mut x = self.behind(PLACES + m.source as usize);
+        let mut link = self.next[PLACES + m.source as usize] as usize;
         for whole in 0..PLACES {
-            if left == 0 || PLACES <= x {
+            if left == 0 || link == 0 {
                 return Plan { whole, left };
             }
+            let x = link - 1;
             let weight = self.pieces[x].weight;
             if left < weight {
                 return Plan { whole, left };
             }
             left -= weight;
-            x = self.hand_over(rule, m.source, m.destination, x);
+            link = self.hand_over(rule, m.source, m.destination, x);
         }
         Plan {
             whole: PLACES,
@@ -86,8 +88,8 @@ impl Store {
                 count: self.count,
             };
         }
-        let x = self.behind(PLACES + m.source as usize);
-        if PLACES <= x {
+        let link = self.next[PLACES + m.source as usize] as usize;
+        if link == 0 {
             let piece = Piece {
                 holder: m.destination,
                 origin: m.source,
@@ -102,7 +104,7 @@ impl Store {
                 count: self.count,
             };
         }
-        self.split_off(rule, m.destination, x, left);
+        self.split_off(rule, m.destination, link - 1, left);
         Applied {
             whole,
             split: 1,

@@ -5,16 +5,16 @@ use super::{Store, keys};
 use table::Piece;
 
 impl Store {
-    // The piece in slot x, the first in the lane of holder s, goes to holder d: the answer is what is then the first, or a number that is no slot.
+    // The piece in slot x, the first in the lane of holder s, goes to holder d: the answer is the link to what is then the first.
     pub(crate) fn hand_over(&mut self, rule: u32, s: u32, d: u32, x: usize) -> usize
         requires { Handing rule s d x self.old }
         ensures { HandedOver rule s d x self.old self.new result }
     {
-        let y = self.leave(s, x);
+        let link = self.leave(s, x);
         self.join(rule, d, x);
         self.pieces[x].holder = d;
         self.receive(x);
-        y
+        link
     }
 
     // A new slot holds the piece. As a call of its own it would read the piece from memory just after it was written there, which waits.

@@ -9,15 +9,15 @@ loop-init c = along_start _ _ _ c.requires.1
 
 pub loop-preserved : goal.loop-preserved
 unfolding remains
-loop-preserved c = along_on _ _ _ _ _ _ c.loop.invariant _ c.behind-x.ensures (search rules) _ (λ l. search rules)
+loop-preserved c = along_on _ _ _ _ _ _ c.loop.invariant (search rules) _ (λ l. search rules)
 
-pub returns-then-x-ge-PLACES : goal.returns-then-x-ge-PLACES
+pub returns-then-link-eq0 : goal.returns-then-link-eq0
 unfolding remains
-returns-then-x-ge-PLACES c line h = sym (along_end _ _ _ _ _ _ c.loop.invariant line h (search rules))
+returns-then-link-eq0 c line h = sym (along_end _ _ _ _ _ _ c.loop.invariant line h (search rules))
 
 pub returns-then-left-weight : goal.returns-then-left-weight
 unfolding remains
-returns-then-left-weight c line h = sym (along_stop _ _ _ _ _ _ c.loop.invariant line h _ c.behind-x.ensures (search rules) _ (λ l. search rules))
+returns-then-left-weight c line h = sym (along_stop _ _ _ _ _ _ c.loop.invariant line h (search rules) _ (λ l. search rules))
 
 pub returns : goal.returns
 unfolding remains
