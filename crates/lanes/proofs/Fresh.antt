@@ -10,8 +10,7 @@ use Rattle.lanes.specs.Notes.{has, latest}
 use Rattle.lanes.specs.Order.{in_order}
 use Rattle.lanes.specs.Chains.{start, ends}
 use Rattle.lanes.specs.Lanes.{most_lanes}
-use Rattle.lanes.specs.Store.{fresh, Kept}
-use Rattle.lanes.specs.Kept.{contents, InOrder}
+use Rattle.lanes.specs.Store.{fresh, Kept, contents, InOrder}
 
 kept : (rule : ℕ) → Kept rule fresh
 unfolding fresh latest has in_order

@@ -1,5 +1,5 @@
--- Whole pieces are handed over in a loop. The invariant: memory is in order, n leads from the start of the source's lane, what is left of the move from here on does what the move does, and there is a note left for every piece
--- that may still go.
+-- Whole pieces are handed over in a loop. The invariant: memory is in order, n leads from the start of the source's lane, what is left of the move from here on does what
+-- the move does, and there is a note left for every piece that may still go.
 -- Assumes nothing.
 use Rattle.std.proofs.Common.{◌≡◌, refl, sym, ap, ◌∙◌, ◌≢◌, List, [], ◌∷◌, ℕ, ◌+◌, ◌-◌, ◌≤◌, ◌<◌, arith, length, eqb, take}
 use borrow.Author.Tests.{le-leb, lt-leb}

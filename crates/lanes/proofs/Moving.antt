@@ -10,8 +10,7 @@ use Rattle.lanes.specs.Order.{at_slot, ahead}
 use Rattle.lanes.specs.Chains.{start, Chain}
 use Rattle.lanes.specs.Lanes.{most_lanes, Contents, taken_of, Movable, Moves}
 use Rattle.lanes.specs.declared.Store.{Store}
-use Rattle.lanes.specs.Store.{received, pieces_in, lane_of}
-use Rattle.lanes.specs.Kept.{contents, InOrder}
+use Rattle.lanes.specs.Store.{received, pieces_in, lane_of, contents, InOrder}
 use Rattle.lanes.specs.Steps.{Leads}
 use Rattle.lanes.specs.Walk.{remains}
 use Rattle.lanes.specs.Moving.{Going, Made, Roomy}

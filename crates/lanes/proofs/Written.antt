@@ -8,9 +8,8 @@ use Rattle.table.specs.Pieces.{no_piece}
 use Rattle.table.specs.Table.{most_places, lay, put_in}
 use Rattle.lanes.specs.Order.{at_slot}
 use Rattle.lanes.specs.declared.Store.{Store}
-use Rattle.lanes.specs.Store.{received, pieces_in}
+use Rattle.lanes.specs.Store.{received, pieces_in, contents, InOrder}
 use Rattle.lanes.specs.Lanes.{Contents}
-use Rattle.lanes.specs.Kept.{contents, InOrder}
 use Rattle.lanes.specs.Moving.{Roomy}
 use Rattle.lanes.proofs.Made.{roomy}
 use Rattle.lanes.specs.Steps.{Closed, Writable}

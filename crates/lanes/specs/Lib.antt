@@ -4,7 +4,6 @@ pub mod Keys
 pub mod Notes
 pub mod Chains
 pub mod Store
-pub mod Kept
 pub mod Steps
 pub mod Closing
 pub mod Walk

@@ -1,11 +1,12 @@
 -- What memory holds: pieces by slot, the lanes of their holders, and the log of receipts.
 -- Definitions only. Assumes nothing.
-use Rattle.std.specs.Prelude.{◌≡◌, List, ℕ, ◌+◌, ◌≤◌, ◌<◌, ltb, length, replicate, take}
+use Rattle.std.specs.Prelude.{◌≡◌, ◌≢◌, List, ℕ, ◌+◌, ◌≤◌, ◌<◌, ltb, length, replicate, take}
 use Rattle.table.specs.declared.Piece.{Piece}
 use Rattle.table.specs.Pieces.{no_piece}
 use Rattle.table.specs.Table.{most_places}
+use Rattle.taking.specs.Stirring.{stirred_rule}
 use Rattle.lanes.specs.declared.Store.{Store}
-use Rattle.lanes.specs.Lanes.{most_lanes}
+use Rattle.lanes.specs.Lanes.{most_lanes, Contents}
 use Rattle.lanes.specs.Notes.{has, latest}
 use Rattle.lanes.specs.Order.{pieces_at, lane}
 use Rattle.lanes.specs.Keys.{Keyed}
@@ -53,3 +54,12 @@ pub record Kept (rule : ℕ) (s : Store) : Type 0 where
   pub listed : Listed s
   pub keyed : (i : ℕ) → i < s.count → Keyed rule s.pieces s.keys i
   pub chained : (v : ℕ) → v < most_lanes → Chain s.next (start v) (lane_of rule s v)
+
+-- what lanes hold, as memory has it
+abbrev pub contents : ℕ → Store → Contents
+contents rule s = record { rule = rule; pieces = pieces_in s }
+
+-- The invariant of lanes: memory is in order, under a rule that picks one piece after the other.
+pub record InOrder (rule : ℕ) (s : Store) : Type 0 where
+  pub kept : Kept rule s
+  pub singly : rule ≢ stirred_rule

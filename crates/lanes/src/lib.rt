@@ -80,7 +80,7 @@ impl Model for Lanes {
 
     ghost Value = { Contents };
 
-    ghost use Rattle.lanes.specs.Kept.{contents, InOrder};
+    ghost use Rattle.lanes.specs.Store.{contents, InOrder};
 
     ghost view = { λ lanes. contents lanes.rule lanes.store };
 

@@ -1,12 +1,12 @@
 // A move by lanes: whole pieces are handed over one after the other, and what is then still wanted is split off the next one or born.
 ghost use Rattle.std.specs.Prelude.{◌≡◌, ◌≢◌, ◌<◌, List, ℕ};
+ghost use Rattle.taking.specs.Stirring.{stirred_rule};
+ghost use Rattle.lanes.specs.Store.{Kept};
 ghost use Rattle.lanes.specs.Chains.{start, Chain};
 ghost use Rattle.lanes.specs.Lanes.{most_lanes};
 ghost use Rattle.lanes.specs.Steps.{Leads};
 ghost use Rattle.lanes.specs.Walk.{remains};
 ghost use Rattle.lanes.specs.Moving.{Going, Gone, Splitting, SplitOff, Made, Roomy};
-ghost use Rattle.taking.specs.Stirring.{stirred_rule};
-ghost use Rattle.lanes.specs.Store.{Kept};
 
 use super::{NOTES, Store};
 use moving::Applied;
