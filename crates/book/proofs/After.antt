@@ -1,22 +1,23 @@
 -- After a transfer on a book known to add up, the book is known to add up again, and the table is as long as before: so a run of many
 -- transfers makes checks 1 and 4 once.
 -- Assumes nothing.
-use Rattle.std.proofs.Common.{◌≡◌, refl, List, ℕ, arith, length}
+use Rattle.std.proofs.Common.{◌≡◌, refl, sym, ◌∙◌, List, ℕ, arith, length}
 use Rattle.table.specs.Pieces.{done}
 use Rattle.table.specs.Table.{places_of, flat}
 use Rattle.table.proofs.Pieces.{all_map}
 use Rattle.refusal.specs.Numbers.{first}
+use Rattle.refusal.proofs.Numbers.{first_zero}
 use Rattle.book.specs.declared.Head.{Head}
 use Rattle.book.specs.declared.Transfer.{Transfer}
 use Rattle.book.specs.Head.{Book, Sized, head_of, book_of, empty_head, opened, open_checks}
 use Rattle.book.specs.Motion.{of_book}
-use Rattle.book.specs.Transfer.{motion_of}
-use Rattle.book.specs.Calls.{post, meaning}
+use Rattle.book.specs.Transfer.{transfer_terms, motion_of}
+use Rattle.book.specs.Calls.{by_transfer, post, meaning}
 use Rattle.book.specs.Memory.{call_on}
 use Rattle.book.proofs.BalanceLaws.{balances_match, balance_held, fresh_head}
 use Rattle.book.proofs.RuleLaws.{given_fit}
 use Rattle.book.proofs.Checks.{fit}
-use Rattle.book.proofs.Sound.{number, SoundBook, SizedBook, motion_light, post_number, keeps}
+use Rattle.book.proofs.Sound.{number, SoundBook, SizedBook, motion_light, proper, posted_own, passed_own, keeps}
 use Rattle.book.proofs.HeadLaws.{openable}
 use Rattle.book.proofs.Memory.{On, adds, number_same, in_step}
 use Rattle.book.proofs.Known.{Known, known_up}
@@ -35,7 +36,7 @@ on_known places h t b on o z = known_up h t (rw on.head_is (sized_head places b 
 -- a transfer leaves numbers of 32 bits
 post_sized : (places : ℕ) (b : Book) (x : Transfer) → SizedBook b → number places b (post x) ≡ 0 → SizedBook ((meaning (post x)).next b)
 post_sized places b x z e =
-    let f = fit (of_book b) x (post_number places b x e).0 in
+    let f = fit (of_book b) x (first_zero _ _ (sym (posted_own (transfer_terms x) (proper (by_transfer x)) places b) ∙ passed_own places b (post x) e)) in
     record { light = motion_light b (motion_of x) z.light f.room; tally = let u = f.tally in omega (arith, z.tally) }
 
 module _ (h : Head) (t : List ℕ) (k : Known h t) (x : Transfer) where

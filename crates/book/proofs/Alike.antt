@@ -8,7 +8,7 @@ use Rattle.std.proofs.Common.{◌≡◌, refl, sym, ap, ◌∙◌, false, List, 
 use Rattle.table.specs.Pieces.{sum, born_at, held}
 use Rattle.table.specs.Table.{places_of}
 use Rattle.book.specs.Head.{book_of, opening}
-use Rattle.book.specs.Calls.{Call, post, lift, tip, set_rule, ask}
+use Rattle.book.specs.Calls.{Call, set_rule}
 use Rattle.book.specs.WeighBook.{WeighBook, blank, weigh_number, weigh_step, feed, listed, forecast}
 use Rattle.book.specs.Lists.{calls_on, answered, stirs, without_settings, transfers, tips, numbers}
 use Rattle.book.proofs.Lists.{demand_3, fed_all}
@@ -17,24 +17,18 @@ use Rattle.book.proofs.Lists.{demand_3, fed_all}
 unset_forecast : (cs : List Call) (w : WeighBook) → forecast w cs ≡ forecast w (without_settings cs)
 unfolding forecast weigh_number
 unset_forecast [] w = refl
-unset_forecast (post x ∷ cs) w = ap (listed (post x) (weigh_number w (post x))) (unset_forecast cs (weigh_step w (post x)))
-unset_forecast (lift x ∷ cs) w = ap (listed (lift x) (weigh_number w (lift x))) (unset_forecast cs (weigh_step w (lift x)))
-unset_forecast (tip y ∷ cs) w = ap (listed (tip y) (weigh_number w (tip y))) (unset_forecast cs (weigh_step w (tip y)))
 unset_forecast (set_rule s ∷ cs) w = unset_forecast cs w
-unset_forecast (ask q room ∷ cs) w = unset_forecast cs w
+unset_forecast (c ∷ cs) w = ap (listed c (weigh_number w c)) (unset_forecast cs (weigh_step w c))
 
 unset_feed : (cs : List Call) (w : WeighBook) → feed w cs ≡ feed w (without_settings cs)
 unfolding feed weigh_number
 unset_feed [] w = refl
-unset_feed (post x ∷ cs) w = unset_feed cs (weigh_step w (post x))
-unset_feed (lift x ∷ cs) w = unset_feed cs (weigh_step w (lift x))
-unset_feed (tip y ∷ cs) w = unset_feed cs (weigh_step w (tip y))
 unset_feed (set_rule s ∷ cs) w = unset_feed cs w
-unset_feed (ask q room ∷ cs) w = unset_feed cs w
+unset_feed (c ∷ cs) w = unset_feed cs (weigh_step w c)
 
 -- A table with a place for every transfer and lift of a list, refused ones counted, and with one at all if it has a tip; and rule 4 is never used.
 pub record Roomy (rule size : ℕ) (t : List ℕ) (cs : List Call) : Type 0 where
-  pub unstirred : stirs (opening rule size).head t cs ≡ false
+  pub unstirred : stirs (calls_on (opening rule size).head t cs).log ≡ false
   pub places : transfers cs ≤ places_of t
   pub long : 1 ≤ tips cs → 4 ≤ length t
 

@@ -1,22 +1,20 @@
 -- What walks beside the weigh book: a call that a sound book accepts moves both alike, and where a place is free the weigh book gives the call's number, unless
 -- it picks by rule 4, which can want more places than one. Each kind of call has one clause of `walks`.
 -- Assumes nothing.
-use Rattle.std.proofs.Common.{◌≡◌, refl, sym, ap, ◌∙◌, subst, false, ◌&&◌, eqb, List, ℕ, suc, ◌+◌, ◌≤◌, arith, T, length}
+use Rattle.std.proofs.Common.{◌≡◌, refl, sym, ap, ◌∙◌, subst, false, ◌&&◌, eqb, List, ℕ, suc, ◌+◌, ◌-◌, ◌≤◌, arith, length}
 use Rattle.std.proofs.lemmas.Bool.Decides.{nat_tests}
 use Rattle.table.specs.Pieces.{sum, born_at, held}
 use Rattle.taking.proofs.Handed.{handed_births}
-use Rattle.refusal.specs.Numbers.{Check, first, if_zero}
-use Rattle.refusal.proofs.Numbers.{named}
+use Rattle.refusal.specs.Numbers.{◌if◌, or_else, first, if_zero}
+use Rattle.refusal.proofs.Numbers.{first_zero}
 use Rattle.book.specs.declared.Motion.{Motion}
 use Rattle.taking.specs.Stirring.{stirred_rule}
-use Rattle.book.specs.Head.{Book, the_scale, rule_at}
-use Rattle.book.specs.Motion.{Standing, of_book, book_after}
-use Rattle.book.specs.Transfer.{transfer_checks, motion_of}
-use Rattle.book.specs.Scale.{lift_checks, tip_checks, lift_motion, tip_motion}
-use Rattle.book.specs.Calls.{Call, post, lift, tip, set_rule, ask, tip_on, meaning}
+use Rattle.book.specs.Head.{Book, rule_at}
+use Rattle.book.specs.Motion.{Standing, of_book, Terms, motion, book_after}
+use Rattle.book.specs.Calls.{Call, terms, enter, set_rule, ask, motion_on, posting_meaning, meaning}
 use Rattle.book.specs.WeighBook.{WeighBook, of_weigh, weighed, weighing, weigh_number, weigh_step, listed}
 use Rattle.book.specs.Lists.{asks_stirred, picked, tips_in}
-use Rattle.book.proofs.Sound.{number, takes_fair, taking_number, taking_own_is, after_count, held_after, post_number, lift_number, tip_number}
+use Rattle.book.proofs.Sound.{own, number, passed_own, takes_fair, held_after, Proper, proper, of_checks, posted_own, posted_count}
 
 -- The weigh book beside the book.
 pub record Beside (b : Book) (w : WeighBook) : Type 0 where
@@ -55,44 +53,40 @@ motion_beside b m w r = record {
   same_count = ap (λ (n : ℕ). n + m.counts) r.same_count;
 }
 
--- where the table has a place, the number of what takes weight from a vessel is that of its own checks, if it does not pick by rule 4
-free_number : (places : ℕ) (b : Book) (m : Motion) (cs : List Check) (ok : T (named cs))
-    → eqb (rule_at b.rules m.moves.source) stirred_rule && picked (taking_number places b m cs ok) ≡ false → length b.pieces + 1 ≤ places
-    → taking_number places b m cs ok ≡ first cs
-free_number places b m cs ok u h = grind (arith, nat_tests, taking_own_is places b m cs ok, after_count b m)
-
 -- the weigh book has the same number, and moves only where that is 0
 foretold : (places : ℕ) (b : Book) (w : WeighBook) (c : Call) → number places b c ≡ weigh_number w c → Foretells places b w c
 foretold places b w c e = record { same = λ ns. ap (λ n. listed c n ns) e; stays = λ n z. ap (λ m. if_zero m ((weighing c).next w) w) (sym e ∙ z) }
 
+-- What is posted, with a place free: the number is that of its own checks, if it does not pick by rule 4, and the weigh book makes the same.
+module _ (p : Terms) (ok : Proper p) (places : ℕ) (b : Book) (w : WeighBook) (r : Beside b w) where
+  same_checks : of_checks p ok places b ≡ first (p.checks (of_weigh w))
+  same_checks = ap (λ (g : Standing). first (p.checks g)) (standing b w r)
+
+  posted_beside : Beside (book_after b (motion_on p b)) (weighed w (motion p (of_weigh w)))
+  posted_beside = subst (λ (g : Standing). Beside (book_after b (motion_on p b)) (weighed w (motion p g))) (standing b w r) (motion_beside b (motion_on p b) w r)
+
+  free_number : let n = or_else (1 if eqb places 0) (own places b (posting_meaning p)) in
+      eqb (rule_at b.rules p.source) stirred_rule && picked n ≡ false → length b.pieces + p.counts ≤ places → (1 ≤ 1 - p.counts → 1 ≤ places)
+      → n ≡ of_checks p ok places b
+  free_number u h k = let one = ok.once in grind (arith, nat_tests, posted_own p ok places b, posted_count p ok places b)
+
 pub walks : (places : ℕ) (b : Book) (w : WeighBook) (c : Call) → Beside b w → Walks places b w c
-unfolding weigh_number number transfer_checks lift_checks
-walks places b w (ask q room) r = record {
-  accepts = λ e. record { weighs = refl; beside = r };
-  foretells = λ u h k. record { same = λ ns. refl; stays = λ n e. refl };
-}
+unfolding weigh_number number
+walks places b w (enter p) r =
+    let ok = proper p in
+    let s = same_checks (terms p) ok places b w r in
+    record {
+      accepts = λ e. record {
+        weighs = sym s ∙ first_zero _ _ (sym (posted_own (terms p) ok places b) ∙ passed_own places b (enter p) e);
+        beside = posted_beside (terms p) ok places b w r;
+      };
+      foretells = λ u h k. foretold places b w (enter p) (free_number (terms p) ok places b w r u h k ∙ s);
+    }
 walks places b w (set_rule s) r = record {
   accepts = λ e. record { weighs = refl; beside = record { same_size = r.same_size; weights = r.weights; births = r.births; same_last = r.same_last; same_count = r.same_count } };
   foretells = λ u h k. record { same = λ ns. refl; stays = λ n e. refl };
 }
-walks places b w (post x) r =
-    let s = ap (λ (g : Standing). first (transfer_checks g x)) (standing b w r) in
-    record {
-      accepts = λ e. record { weighs = sym s ∙ (post_number places b x e).0; beside = motion_beside b (motion_of x) w r };
-      foretells = λ u h k. foretold places b w (post x) (free_number places b (motion_of x) (transfer_checks (of_book b) x) tt u h ∙ s);
-    }
-walks places b w (lift x) r =
-    let s = ap (λ (g : Standing). first (lift_checks the_scale g x)) (standing b w r) in
-    record {
-      accepts = λ e. record { weighs = sym s ∙ (lift_number places b x e).0; beside = motion_beside b (lift_motion the_scale x) w r };
-      foretells = λ u h k. foretold places b w (lift x) (free_number places b (lift_motion the_scale x) (lift_checks the_scale (of_book b) x) tt u h ∙ s);
-    }
-walks places b w (tip y) r =
-    let s = ap (λ (g : Standing). first (tip_checks the_scale g y)) (standing b w r) in
-    record {
-      accepts = λ e. record {
-        weighs = sym s ∙ tip_number places b y e;
-        beside = subst (λ (n : ℕ). Beside (book_after b (tip_on the_scale b y)) (weighed w (tip_motion the_scale n y))) (r.weights the_scale) (motion_beside b (tip_on the_scale b y) w r);
-      };
-      foretells = λ u h k. foretold places b w (tip y) (grind (arith, nat_tests, k, s));
-    }
+walks places b w (ask q room) r = record {
+  accepts = λ e. record { weighs = refl; beside = r };
+  foretells = λ u h k. record { same = λ ns. refl; stays = λ n e. refl };
+}

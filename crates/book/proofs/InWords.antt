@@ -25,10 +25,10 @@ use Rattle.book.specs.declared.Report.{Report}
 use Rattle.book.specs.Head.{the_scale, most_vessels, book_of, adds_up, rule_at}
 use Rattle.book.specs.Motion.{of_book, takes}
 use Rattle.book.specs.Transfer.{transfer_checks, motion_of}
-use Rattle.book.specs.Scale.{lift_checks, lift_motion}
+use Rattle.book.specs.Scale.{lift_checks, lift_motion, tip_terms}
 use Rattle.book.specs.Setting.{setting_checks, ruled}
 use Rattle.book.specs.Reports.{report_row}
-use Rattle.book.specs.Calls.{Call, post, lift, tip, set_rule, ask, Answer, tip_on, meaning}
+use Rattle.book.specs.Calls.{Call, post, lift, tip, set_rule, ask, Answer, no_answer, motion_on, meaning}
 use Rattle.book.specs.Memory.{number_of, book_checks, call_on}
 use Rattle.book.proofs.RuleLaws.{set_at, set_others}
 use Rattle.book.proofs.Checks.{Fit, LiftFit, setting_fit}
@@ -36,7 +36,7 @@ use Rattle.book.proofs.Memory.{call_number, refused_on, on_number, passed_book, 
 use Rattle.book.proofs.Known.{AddsUp, adds_up_told, adds_head}
 
 abbrev pub moved_answer : Moved → Answer
-moved_answer r = record { whole = r.whole; split = r.split; born = r.missing }
+moved_answer r = record no_answer { whole = r.whole; split = r.split; born = r.missing }
 
 module _ (h : Head) (t : List ℕ) where
   abbrev ps : List Piece
@@ -84,7 +84,7 @@ module _ (h : Head) (t : List ℕ) where
   tip_in_words y z =
       let e = sym (call_number h t (tip y)) ∙ z in
       let weighty = all_map (λ p f. f.weighty) (accepted_book (tip y) e).sound in
-      rw (e, swept_whole (tip_on the_scale (book_of h t) y).moves ps weighty refl) (simp append-nil)
+      rw (e, swept_whole (motion_on (tip_terms the_scale y) (book_of h t)).moves ps weighty refl) (simp append-nil)
 
   -- "Each accepted report writes exactly the weights that document 01 names for it", and "numbers after these remain".
   pub report_in_words : (q : Report) (room : List ℕ) → (call_on h t (ask q room)).number ≡ 0
@@ -93,7 +93,7 @@ module _ (h : Head) (t : List ℕ) where
   report_in_words q room z = let e = sym (call_number h t (ask q room)) ∙ z in rw e (take_at (report_row h.vessels ps q) _ _ refl, drop_at (report_row h.vessels ps q) _ _ refl)
 
   -- "A refusal returns its number with all other answer numbers 0 and the head as given; no lent memory changes", the room of a report neither.
-  pub refused_in_words : (c : Call) → ((call_on h t c).number ≡ 0 → ⊥) → ((call_on h t c).answer ≡ record { whole = 0; split = 0; born = 0 }) × ((call_on h t c).head ≡ h) × ((call_on h t c).table ≡ t)
+  pub refused_in_words : (c : Call) → ((call_on h t c).number ≡ 0 → ⊥) → ((call_on h t c).answer ≡ ((meaning c).refused (call_on h t c).number (places_of t) (book_of h t)).answer) × ((call_on h t c).head ≡ h) × ((call_on h t c).table ≡ t)
   refused_in_words c nz = rw (refused_on h t c _ (sym (call_number h t c)) nz) (refl, refl, refl)
 
   pub report_refused : (q : Report) (room : List ℕ) → ((call_on h t (ask q room)).number ≡ 0 → ⊥) → (call_on h t (ask q room)).room ≡ room

@@ -3,86 +3,70 @@
 -- Assumes nothing.
 use Rattle.std.proofs.Common.{◌≡◌, refl, ap, ◌∙◌, Bool, false, ◌&&◌, List, [], ◌∷◌, ℕ, zero, suc, ◌+◌, ◌≤◌, arith, length}
 use Rattle.table.specs.Table.{places_of}
-use Rattle.book.specs.declared.Head.{Head}
 use Rattle.book.specs.Head.{Book, opened, opening}
 use Rattle.book.specs.Calls.{Call, meaning}
-use Rattle.book.specs.Memory.{Outcome, call_on}
 use Rattle.book.specs.WeighBook.{WeighBook, weighing, blank, feed, forecast}
-use Rattle.book.specs.Lists.{Journal, calls_on, answered, follow, transfers, tips, evens, numbers, asks_stirred, picked, stirs, Demand3}
+use Rattle.book.specs.Lists.{Entry, Journal, calls_on, all_asked, answered, follow, transfers, tips, evens, numbers, stirs, Demand3}
 use Rattle.book.proofs.Sound.{number, SoundBook, keeps, count_kept}
-use Rattle.book.proofs.Beside.{Beside, walks}
-use Rattle.book.proofs.Memory.{On, InStep, back, adds, in_step}
-use Rattle.book.proofs.HeadLaws.{opening_passed}
-use Rattle.book.proofs.After.{fresh, fresh_on}
+use Rattle.book.proofs.Beside.{Beside, Walks, walks}
+use Rattle.book.proofs.Memory.{On, back, adds}
+use Rattle.book.proofs.Along.{step, entry, Ends, from_opening}
 
--- What holds of the journal r of the calls cs, from the book b and the weigh book w on. `uses` says whether any of them picks by rule 4.
-record Follows (places : ℕ) (b : Book) (w : WeighBook) (uses : Bool) (cs : List Call) (r : Journal) : Type 0 where
-  final : Book
-  on : On places r.head r.table final
-  sound : SoundBook places final
-  in_turn : final ≡ follow b (answered r.log)
-  beside : Beside final (feed w (answered r.log))
-  tally : final.accepted ≡ transfers (answered r.log) + b.accepted
-  count : uses ≡ false → length final.pieces + evens r.log + b.accepted ≡ length b.pieces + final.accepted
-  forecasts : uses ≡ false → length b.pieces + transfers cs ≤ places → (1 ≤ tips cs → 1 ≤ places) → numbers r.log ≡ forecast w cs
+-- What holds of a journal, from the book b and the weigh book w on.
+record Follows (places : ℕ) (b : Book) (w : WeighBook) (es : List Entry) (final : Book) : Type 0 where
+  in_turn : final ≡ follow b (answered es)
+  beside : Beside final (feed w (answered es))
+  tally : final.accepted ≡ transfers (answered es) + b.accepted
+  count : stirs es ≡ false → length final.pieces + evens es + b.accepted ≡ length b.pieces + final.accepted
+  forecasts : stirs es ≡ false → length b.pieces + transfers (all_asked es) ≤ places → (1 ≤ tips (all_asked es) → 1 ≤ places) → numbers es ≡ forecast w (all_asked es)
   -- and so what is refused does not move the weigh book either
-  fed : uses ≡ false → length b.pieces + transfers cs ≤ places → (1 ≤ tips cs → 1 ≤ places) → feed w (answered r.log) ≡ feed w cs
+  fed : stirs es ≡ false → length b.pieces + transfers (all_asked es) ≤ places → (1 ≤ tips (all_asked es) → 1 ≤ places) → feed w (answered es) ≡ feed w (all_asked es)
 
 module _ (places : ℕ) where
-  abbrev Holds : List Call → Type 0
-  Holds cs = (h : Head) (t : List ℕ) (b : Book) (w : WeighBook) → On places h t b → SoundBook places b → Beside b w
-      → Follows places b w (stirs h t cs) cs (calls_on h t cs)
+  abbrev Followed : Book → List Entry → Book → Type 0
+  Followed b es z = (w : WeighBook) → Beside b w → Follows places b w es z
 
-  follows : (cs : List Call) → Holds cs
-  unfolding calls_on follow feed forecast stirs
-  follows [] h t b w on o r =
-      record { final = b; on = on; sound = o; in_turn = refl; beside = r; tally = omega arith; count = λ u. omega arith; forecasts = λ u h k. refl; fed = λ u h k. refl }
-  follows (c ∷ cs) h t b w on o r = go (number places b c) refl (in_step places h t b on o c) (follows cs)
+  none : (b : Book) → Followed b [] b
+  unfolding follow feed forecast
+  none b w r = record { in_turn = refl; beside = r; tally = omega arith; count = λ u. omega arith; forecasts = λ u h k. refl; fed = λ u h k. refl }
+
+  more : (b : Book) (c : Call) (es : List Entry) (z : Book) → SoundBook places b → Followed (step places b c) es z → Followed b (entry places b c ∷ es) z
+  unfolding follow feed forecast
+  more b c es z o rest w r = go (number places b c) refl
     where
-      u : Outcome
-      u = call_on h t c
+      s : Walks places b w c
+      s = walks places b w c r
 
-      -- neither this call picks by rule 4, nor one behind it
-      this : stirs h t (c ∷ cs) ≡ false → asks_stirred b.rules c && picked (number places b c) ≡ false
-      this e = grind (arith, on.head_is, (in_step places h t b on o c).number_is)
-
-      behind : stirs h t (c ∷ cs) ≡ false → stirs u.head u.table cs ≡ false
-      behind e = grind arith
-
-      go : (n : ℕ) → number places b c ≡ n → InStep places h t b on o c n → Holds cs → Follows places b w (stirs h t (c ∷ cs)) (c ∷ cs) (calls_on h t (c ∷ cs))
-      go zero e s next =
+      go : (n : ℕ) → number places b c ≡ n → Follows places b w (entry places b c ∷ es) z
+      go zero e =
           let k = keeps places b c o e in
-          let a = (walks places b w c r).accepts e in
-          let i = next u.head u.table ((meaning c).next b) ((weighing c).next w) s.holds s.sound a.beside in
-          let count : stirs h t (c ∷ cs) ≡ false → length ((meaning c).next b).pieces + (meaning c).even b ≡ length b.pieces + (meaning c).counts =
-          λ q. count_kept places b c e (grind (arith, this q)) in
+          let a = s.accepts e in
+          let next : Followed ((meaning c).next b) es z = rw e at rest in
+          let i = next ((weighing c).next w) a.beside in
+          let count : stirs (entry places b c ∷ es) ≡ false → length ((meaning c).next b).pieces + (meaning c).even b ≡ length b.pieces + (meaning c).counts =
+          λ q. count_kept places b c (grind (arith, e)) in
           record {
-            final = i.final;
-            on = i.on;
-            sound = i.sound;
-            in_turn = rw s.number_is i.in_turn;
-            beside = rw (s.number_is, feed, a.weighs, feed) i.beside;
-            tally = rw s.number_is (omega (arith, i.tally, k.tally));
-            count = λ q. rw s.even_is (omega (arith, i.count (behind q), count q, k.tally));
-            forecasts = λ q h f. rw (s.number_is, a.weighs, i.forecasts (behind q) (omega (arith, count q)) (λ u. f (omega arith)));
-            fed = λ q h f. rw (s.number_is, feed, a.weighs) (i.fed (behind q) (omega (arith, count q)) (λ u. f (omega arith)));
+            in_turn = rw e i.in_turn;
+            beside = rw (e, feed, a.weighs, feed) i.beside;
+            tally = rw e (omega (arith, i.tally, k.tally));
+            count = λ q. rw e (let u = i.count (grind arith) in let v = count q in omega (arith, u, v, k.tally));
+            forecasts = λ q h f. rw (e, a.weighs, i.forecasts (grind arith) (let v = count q in omega arith) (λ u. f (omega arith)));
+            fed = λ q h f. rw (e, feed, a.weighs) (i.fed (grind arith) (let v = count q in omega arith) (λ u. f (omega arith)));
           }
-      go (suc n) e s next =
-          let i = next u.head u.table b w s.holds o r in
+      go (suc n) e =
+          let next : Followed b es z = rw e at rest in
+          let i = next w r in
           record {
-            final = i.final;
-            on = i.on;
-            sound = i.sound;
-            in_turn = rw s.number_is i.in_turn;
-            beside = rw s.number_is i.beside;
-            tally = rw s.number_is i.tally;
-            count = λ q. rw s.even_is (omega (arith, i.count (behind q)));
+            in_turn = rw e i.in_turn;
+            beside = rw e i.beside;
+            tally = rw e i.tally;
+            count = λ q. rw e (let u = i.count (grind arith) in omega arith);
             forecasts = λ q h f.
-                let z = (walks places b w c r).foretells (this q) (omega arith) (λ u. f (omega arith)) in
-                rw (s.number_is, z.stays n e, ← e, z.same (numbers (calls_on u.head u.table cs).log), i.forecasts (behind q) (omega arith) (λ u. f (omega arith)));
+                let z = s.foretells (grind arith) (omega arith) (λ u. f (omega arith)) in
+                rw (e, z.stays n e, ← e, z.same (numbers es), i.forecasts (grind arith) (omega arith) (λ u. f (omega arith)));
             fed = λ q h f.
-                let z = (walks places b w c r).foretells (this q) (omega arith) (λ u. f (omega arith)) in
-                rw (s.number_is, z.stays n e) (i.fed (behind q) (omega arith) (λ u. f (omega arith)));
+                let z = s.foretells (grind arith) (omega arith) (λ u. f (omega arith)) in
+                rw (e, feed, z.stays n e) (i.fed (grind arith) (omega arith) (λ u. f (omega arith)));
           }
 
 -- the theorem, from the fresh head
@@ -90,30 +74,33 @@ module _ (rule size : ℕ) (e : (opening rule size).number ≡ 0) (t : List ℕ)
   abbrev journal : Journal
   journal = calls_on (opening rule size).head t cs
 
-  followed : Follows (places_of t) (opened rule size) (blank size) (stirs (opening rule size).head t cs) cs journal
-  followed =
-      let o = opening_passed rule size e in
-      let fresh_on_it : On (places_of t) (opening rule size).head t (opened rule size) = rw o.1 (fresh_on rule size t) in
-      follows (places_of t) cs (opening rule size).head t (opened rule size) (blank size) fresh_on_it (fresh (places_of t) rule size o.0)
-      (record { same_size = refl; weights = λ v. refl; births = λ o t. refl; same_last = refl; same_count = refl })
+  ended : Ends (places_of t) (Followed (places_of t)) (opened rule size) cs journal
+  ended = from_opening (places_of t) (Followed (places_of t)) (none (places_of t)) (more (places_of t)) rule size e t refl cs
+
+  followed : Follows (places_of t) (opened rule size) (blank size) journal.log ended.final
+  followed = ended.related (blank size) (record { same_size = refl; weights = λ v. refl; births = λ o t. refl; same_last = refl; same_count = refl })
 
   -- DEMAND 3: for every opening that is accepted, every table and every list of calls.
   pub demand_3 : Demand3 rule size t cs (calls_on (opening rule size).head t cs)
   unfolding places_of
   demand_3 =
+      let n = ended in
       let f = followed in
-      let k = back (places_of t) _ _ _ f.on f.sound in
+      let k = back (places_of t) _ _ _ n.on n.sound in
       record {
         in_turn = k ∙ f.in_turn;
         vessel_sums = λ v. rw (ap (λ b. b.pieces) k) (f.beside.weights v);
         birth_sums = λ o m. rw (ap (λ b. b.pieces) k) (f.beside.births o m);
-        even_count = λ q. rw f.on.head_is (omega (arith, f.count q));
-        accepted_count = rw f.on.head_is (omega (arith, f.tally));
-        forecasts = λ s h q. f.forecasts s (omega arith) (λ u. let k : 4 ≤ length t = q u in omega arith);
-        book_adds_up = adds (places_of t) _ _ _ f.on f.sound;
+        even_count = λ q. rw n.on.head_is (let u = f.count q in omega (arith, u));
+        accepted_count = rw n.on.head_is (omega (arith, f.tally));
+        forecasts = λ s h q.
+            f.forecasts s (rw n.asked_is (omega arith)) (rw n.asked_is (λ u. let k : 4 ≤ length t = q u in omega arith)) ∙ ap (forecast (blank size)) n.asked_is;
+        book_adds_up = adds (places_of t) _ _ _ n.on n.sound;
       }
 
   -- Where rule 4 is never used and there are places enough, the weigh book fed every call, the refused ones too, is what it is fed the accepted ones.
-  pub fed_all : stirs (opening rule size).head t cs ≡ false → transfers cs ≤ places_of t → (1 ≤ tips cs → 4 ≤ length t) → feed (blank size) (answered journal.log) ≡ feed (blank size) cs
+  pub fed_all : stirs journal.log ≡ false → transfers cs ≤ places_of t → (1 ≤ tips cs → 4 ≤ length t) → feed (blank size) (answered journal.log) ≡ feed (blank size) cs
   unfolding places_of
-  fed_all s h q = followed.fed s (omega arith) (λ u. let k : 4 ≤ length t = q u in omega arith)
+  fed_all s h q =
+      let n = ended in
+      followed.fed s (rw n.asked_is (omega arith)) (rw n.asked_is (λ u. let k : 4 ≤ length t = q u in omega arith)) ∙ ap (feed (blank size)) n.asked_is

@@ -16,6 +16,7 @@ use Rattle.taking.proofs.HeldBy.{sum_elsewhere}
 use Rattle.taking.proofs.Handed.{handed_others}
 use Rattle.taking.proofs.Apart.{apart_taken, apart_handed}
 use Rattle.refusal.specs.Numbers.{first}
+use Rattle.refusal.proofs.Numbers.{first_zero}
 use Rattle.book.specs.declared.Head.{Head}
 use Rattle.book.specs.declared.Transfer.{Transfer}
 use Rattle.book.specs.declared.Lift.{Lift}
@@ -29,10 +30,10 @@ use Rattle.book.specs.Transfer.{transfer_of, transfer_checks, motion_of}
 use Rattle.book.specs.Scale.{lift_of, tip_of, lift_checks, tip_checks}
 use Rattle.book.specs.Setting.{setting_checks}
 use Rattle.book.specs.Reports.{rows, report_row, report_checks, onto}
-use Rattle.book.specs.Calls.{Call, post, lift, tip, set_rule, ask, meaning}
+use Rattle.book.specs.Calls.{Posting, Call, enter, terms, motion_on, post, lift, tip, set_rule, ask, meaning}
 use Rattle.book.specs.Memory.{Outcome, number_of, book_checks, call_on}
 use Rattle.book.specs.Lists.{calls_on, tips_in, tips}
-use Rattle.book.proofs.Sound.{takes_fair}
+use Rattle.book.proofs.Sound.{takes_fair, held_after, proper, posted_own}
 use Rattle.book.proofs.Memory.{call_number, accepted_on, refused_memory, on_number, number_split, number_same, book_passed, back, in_step}
 use Rattle.book.proofs.Known.{adds_up_told, adds_sound, adds_on}
 use Rattle.book.proofs.InWords.{passed_own, accepted_book, post_fit, fit_lift, tip_in_words}
@@ -65,17 +66,26 @@ module _ (h : Head) (t : List ℕ) where
 
   -- What is on the scale stays there, whatever is called but a tip.
   module _ (loaded : h.scale ≢ 0) where
+    -- what counts is not from the scale, and not onto it
+    outside : (v : Posting) → tips_in (enter v) ≡ 0 → number_of h t (enter v) ≡ 0 → ((terms v).source ≢ the_scale) × ((terms v).destination ≢ the_scale)
+    outside v u e =
+        let p = terms v in
+        let a = accepted_book h t (enter v) e in
+        let own = first_zero _ _ (sym (posted_own p (proper v) (places_of t) (book_of h t)) ∙ passed_own h t (enter v) e) in
+        let f = (proper v).fits (of_book (book_of h t)) own in
+        let i : p.source < h.vessels = f.from_vessel (omega arith) in
+        let few = a.vessels_fit in
+        let is = a.scale_is in
+        (λ s. omega arith, λ s. grind (arith, f.into))
+
     pub load_stays : (c : Call) → tips_in c ≡ 0 → load (call_on h t c).head (call_on h t c).table ≡ load h t
     load_stays c untipped = go (number_of h t c) refl
       where
         accepted : (c : Call) → tips_in c ≡ 0 → number_of h t c ≡ 0 → held_by the_scale ((meaning c).next (book_of h t)).pieces ≡ load h t
-        accepted (post x) u e =
-            let f = post_fit h t x e in
-            let few = (accepted_book h t (post x) e).vessels_fit in
-            handed_others (motion_of x).moves _ _ (takes_fair (book_of h t) (motion_of x)) the_scale
-            (λ s. omega (arith, f.source_in)) (λ s. omega (arith, f.destination_in))
-        accepted (lift x) u e = absurd (loaded ((accepted_book h t (lift x) e).scale_is ∙ (fit_lift h t x e).bare))
-        accepted (tip y) u e = absurd (omega arith)
+        accepted (enter v) u e =
+            let m = motion_on (terms v) (book_of h t) in
+            let o = outside v u e in
+            handed_others m.moves _ _ (takes_fair (book_of h t) m) the_scale (λ s. o.0 (sym s)) (λ s. o.1 (sym s))
         accepted (set_rule s) u e = refl
         accepted (ask q room) u e = refl
 
@@ -85,9 +95,11 @@ module _ (h : Head) (t : List ℕ) where
 
     scale_stays : (c : Call) → tips_in c ≡ 0 → (call_on h t c).head.scale ≡ h.scale
     unfolding call_on
-    scale_stays (post x) u = post_scale h t x
-    scale_stays (lift x) u = grind (arith, fit_lift h t x, accepted_book h t (lift x))
-    scale_stays (tip y) u = absurd (omega arith)
+    scale_stays (enter v) u =
+        let m = motion_on (terms v) (book_of h t) in
+        let after = held_after (book_of h t) m the_scale in
+        let is = accepted_book h t (enter v) in
+        grind (arith, nat_tests, outside v u, after, is)
     scale_stays (set_rule s) u = grind (arith, accepted_book h t (set_rule s))
     scale_stays (ask q room) u = grind (arith, accepted_book h t (ask q room))
 
@@ -119,7 +131,7 @@ module _ (b : Book) (x : Transfer) (source : the_scale ≢ x.source) (destinatio
   unfolding takes
   apart_next = λ i. record { rule = b.rule; vessels = b.vessels; last = x.minute; accepted = b.accepted + 1; rules = b.rules; pieces = apart_handed the_scale (rule_at b.rules x.source) (motion_of x).moves b.pieces source destination i }
 
-  apart_answer : (meaning (post x)).answer b ≡ (meaning (post x)).answer (unloaded b)
+  apart_answer : ((meaning (post x)).told b).answer ≡ ((meaning (post x)).told (unloaded b)).answer
   unfolding takes
   apart_answer = rw (apart_taken the_scale (rule_at b.rules x.source) (motion_of x).moves b.pieces source) refl
 
@@ -133,7 +145,7 @@ pub load_apart : (h : Head) (t : List ℕ) (x : Transfer) → (call_on h t (post
     → let now = book_of h t in
     let o = call_on h t (post x) in
     (unloaded (book_of o.head o.table) ≡ (meaning (post x)).next (unloaded now))
-    × (o.answer ≡ (meaning (post x)).answer (unloaded now))
+    × (o.answer ≡ ((meaning (post x)).told (unloaded now)).answer)
     × (transfer_checks (of_book now) x ≡ transfer_checks (of_book (unloaded now)) x)
 load_apart h t x w =
     let z = sym (call_number h t (post x)) ∙ w in

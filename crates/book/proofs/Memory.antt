@@ -9,7 +9,7 @@ use Rattle.refusal.specs.Numbers.{first, if_zero}
 use Rattle.refusal.proofs.Numbers.{first_append}
 use Rattle.book.specs.declared.Head.{Head}
 use Rattle.book.specs.Head.{Book, balances_of, head_of, book_of, adds_up}
-use Rattle.book.specs.Calls.{Call, post, lift, tip, set_rule, ask, meaning, no_answer}
+use Rattle.book.specs.Calls.{Call, set_rule, meaning}
 use Rattle.book.specs.Lists.{sets_rule}
 use Rattle.book.specs.Memory.{Outcome, outcome, book_checks, number_of, call_on, transferred, replied}
 use Rattle.book.proofs.Sound.{number, SoundBook, Lies, keeps}
@@ -40,9 +40,10 @@ pub answer_told : (o : Outcome)
     × (replied o ≡ record { number = o.number; head = o.head })
 answer_told o = (refl, refl)
 
--- a refused call gives back the head and leaves all memory as it was
+-- a refused call gives back the head and leaves the table as it was, and tells what it means
 pub refused_on : (h : Head) (t : List ℕ) (c : Call) (n : ℕ) → number_of h t c ≡ n → (n ≡ 0 → ⊥)
-    → call_on h t c ≡ record { number = n; answer = no_answer; head = h; table = t; room = (meaning c).lent; even = 0 }
+    → let r = (meaning c).refused n (places_of t) (book_of h t) in
+    call_on h t c ≡ record { number = n; answer = r.answer; head = h; table = t; room = r.room; even = 0 }
 unfolding call_on
 refused_on h t c n e nz = grind arith
 
@@ -116,8 +117,5 @@ rule_kept h t c = grind arith
 -- and only the setting of one alters the rules of the vessels
 pub rules_kept : (h : Head) (t : List ℕ) (c : Call) → sets_rule c ≡ false → (call_on h t c).head.rules ≡ h.rules
 unfolding call_on
-rules_kept h t (post x) u = grind arith
-rules_kept h t (lift x) u = grind arith
-rules_kept h t (tip y) u = grind arith
 rules_kept h t (set_rule s) u = cc
-rules_kept h t (ask q room) u = grind arith
+rules_kept h t c u = grind arith

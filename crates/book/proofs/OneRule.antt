@@ -9,22 +9,20 @@ use Rattle.std.proofs.lemmas.Bool.Decides.{nat_tests}
 use Rattle.table.specs.Table.{places_of}
 use Rattle.table.proofs.Table.{length_pieces}
 use Rattle.taking.proofs.Stirring.{taken_singly}
-use Rattle.refusal.specs.Numbers.{Check, ◌if◌, first, if_zero}
-use Rattle.refusal.proofs.Numbers.{named, first_append}
+use Rattle.refusal.specs.Numbers.{first, if_zero}
+use Rattle.refusal.proofs.Numbers.{first_append}
 use Rattle.book.specs.declared.Head.{Head}
 use Rattle.book.specs.declared.Motion.{Motion}
 use Rattle.book.specs.Head.{Book, the_scale, given_rules, adds_up, book_of, open_checks, opens, opening}
-use Rattle.book.specs.Motion.{of_book, takes, pieces_after}
-use Rattle.book.specs.Transfer.{transfer_checks, motion_of}
-use Rattle.book.specs.Scale.{lift_checks, lift_motion}
-use Rattle.book.specs.Calls.{Call, post, lift, tip, set_rule, ask, taking, meaning}
+use Rattle.book.specs.Motion.{of_book, Terms, takes, pieces_after}
+use Rattle.book.specs.Calls.{Posting, by_transfer, by_lift, terms, Call, enter, set_rule, place_checks, motion_on, Meaning, posting_meaning, meaning}
 use Rattle.book.specs.Memory.{outcome, book_checks, number_of, call_on}
 use Rattle.book.specs.Lists.{noted, calls_on, sets_rule, without_settings}
-use Rattle.book.specs.OneRule.{former_takes, former_pieces, former_taking, one_rule, one_rule_checks, one_rule_number, one_rule_on, one_rule_calls}
+use Rattle.book.specs.OneRule.{former_takes, former_pieces, former_posting, one_rule, one_rule_checks, one_rule_number, one_rule_on, one_rule_calls}
 use Rattle.book.proofs.RuleLaws.{given_fit, given_at, given_unstirred}
 use Rattle.book.proofs.Checks.{fit, lift_fit}
 use Rattle.book.proofs.Memory.{number_split, number_same, passed_book, book_passed, on_number, rule_kept, rules_kept}
-use Rattle.book.proofs.Sound.{number, keeps, count_kept}
+use Rattle.book.proofs.Sound.{number, proper, keeps, count_kept}
 use Rattle.book.proofs.Known.{AddsUp, adds_up_told, adds_sound, adds_on}
 use Rattle.book.proofs.Unstirred.{asks_none}
 
@@ -45,9 +43,9 @@ module _ (h : Head) (t : List ℕ) (unset : h.rules ≡ given_rules h.rule h.ves
   unfolding one_rule_number one_rule_checks
   former_split c = first_append (one_rule_checks h t) ((one_rule c).checks (places_of t) b) tt
 
-  -- A call is as before if, on a book that adds up, its own checks are, and what it leaves where none applies.
+  -- A call is as before if, on a book that adds up, its own checks are, and what it leaves where none applies; and it tells the same where it is refused.
   module _ (c : Call) (same_checks : AddsUp h t → first ((meaning c).checks (places_of t) b) ≡ first ((one_rule c).checks (places_of t) b))
-      (same_lent : (meaning c).lent ≡ (one_rule c).lent)
+      (same_refused : (meaning c).refused ≡ (one_rule c).refused)
       (same_left : AddsUp h t → first ((meaning c).checks (places_of t) b) ≡ 0 → outcome h t (meaning c) 0 ≡ outcome h t (one_rule c) 0) where
     sums : first (book_checks h t) ≡ 0 → AddsUp h t
     sums e = adds_up_told h t (book_passed h t e).1
@@ -61,34 +59,45 @@ module _ (h : Head) (t : List ℕ) (unset : h.rules ≡ given_rules h.rule h.ves
       where
         go : (n : ℕ) → number_of h t c ≡ n → outcome h t (meaning c) n ≡ outcome h t (one_rule c) n
         go zero e = let p = passed_book h t c e in same_left (sums p) (sym (on_number h t c _ refl p) ∙ e)
-        go (suc n) e = rw same_lent refl
+        go (suc n) e = rw same_refused refl
 
-  -- what takes weight from a vessel
-  module _ (c : Call) (checks : Book → List Check) (m : Motion) (now : meaning c ≡ taking checks m) (was : one_rule c ≡ former_taking checks m)
-      (ok : T (named (checks b))) (inside : first (checks b) ≡ 0 → m.moves.source < h.vessels) where
-    same_own : AddsUp h t → first ((taking checks m).checks (places_of t) b) ≡ first ((former_taking checks m).checks (places_of t) b)
-    same_own a =
-        let one = first_append (checks b) (11 if ltb (places_of t) (length (pieces_after b m)) ∷ []) ok in
-        let other = first_append (checks b) (11 if ltb (places_of t) (length (former_pieces b m.moves)) ∷ []) ok in
-        let same = λ (e : first (checks b) ≡ 0). same_taken m a (inside e) in
-        grind (arith, one, other, same)
+  -- what is posted from a vessel
+  module _ (u : Posting) (counts : 1 ≤ (terms u).counts) where
+    was : one_rule (enter u) ≡ former_posting (terms u)
+    was = grind arith
 
-    same_left : AddsUp h t → first ((taking checks m).checks (places_of t) b) ≡ 0 → outcome h t (taking checks m) 0 ≡ outcome h t (former_taking checks m) 0
-    same_left a e =
-        let one = first_append (checks b) (11 if ltb (places_of t) (length (pieces_after b m)) ∷ []) ok in
-        let z : first (checks b) ≡ 0 = grind (arith, one) in
-        rw (same_taken m a (inside z)) refl
+    inside : first ((terms u).checks (of_book b)) ≡ 0 → (terms u).source < h.vessels
+    inside e = ((proper u).fits (of_book b) e).from_vessel counts
 
-    taking_as_before : call_on h t c ≡ one_rule_on h t c
-    taking_as_before = as_ever c (λ a. rw (now, was) (same_own a)) (rw (now, was) refl) (λ a e. rw (now, was) (same_left a (rw now at e)))
+    abbrev p : Terms
+    p = terms u
+
+    abbrev m : Motion
+    m = motion_on p b
+
+    one : first ((posting_meaning p).checks (places_of t) b)
+        ≡ if_zero (first (p.checks (of_book b))) (first (place_checks p.counts (places_of t) (pieces_after b m))) (first (p.checks (of_book b)))
+    one = first_append (p.checks (of_book b)) _ ((proper u).named (of_book b))
+
+    other : first ((former_posting p).checks (places_of t) b)
+        ≡ if_zero (first (p.checks (of_book b))) (first (place_checks p.counts (places_of t) (former_pieces b m.moves))) (first (p.checks (of_book b)))
+    other = first_append (p.checks (of_book b)) _ ((proper u).named (of_book b))
+
+    posted_as_before : call_on h t (enter u) ≡ one_rule_on h t (enter u)
+    posted_as_before =
+        as_ever (enter u)
+        (λ a. rw was (let same = λ (e : first (p.checks (of_book b)) ≡ 0). same_taken m a (inside e) in grind (arith, one, other, same)))
+        (rw was refl)
+        (λ a e. rw (was, same_taken m a (inside (grind (arith, one)))) refl)
 
   pub as_before : (c : Call) → sets_rule c ≡ false → call_on h t c ≡ one_rule_on h t c
-  unfolding transfer_checks lift_checks
-  as_before (post x) u = taking_as_before (post x) (λ b. transfer_checks (of_book b) x) (motion_of x) refl refl tt (λ e. (fit (of_book b) x e).source_in)
-  as_before (lift x) u = taking_as_before (lift x) (λ b. lift_checks the_scale (of_book b) x) (lift_motion the_scale x) refl refl tt (λ e. (lift_fit the_scale (of_book b) x e).source_in)
-  as_before (tip y) u = as_ever (tip y) (λ a. refl) refl (λ a e. refl)
+  as_before (enter v) u = go (terms v).counts refl
+    where
+      go : (n : ℕ) → (terms v).counts ≡ n → call_on h t (enter v) ≡ one_rule_on h t (enter v)
+      go zero z = let same : one_rule (enter v) ≡ meaning (enter v) = rw z refl in as_ever (enter v) (λ a. ap (λ (x : Meaning). first (x.checks (places_of t) b)) (sym same)) (ap (λ (x : Meaning). x.refused) (sym same)) (λ a e. ap (λ (x : Meaning). outcome h t x 0) (sym same))
+      go (suc n) z = posted_as_before v (omega arith)
   as_before (set_rule s) u = cc
-  as_before (ask q room) u = as_ever (ask q room) (λ a. refl) refl (λ a e. refl)
+  as_before c u = as_ever c (λ a. refl) refl (λ a e. refl)
 
   -- and it leaves the rules as they were given
   pub still_unset : (c : Call) → sets_rule c ≡ false → let z = (call_on h t c).head in z.rules ≡ given_rules z.rule z.vessels
@@ -106,7 +115,7 @@ module _ (h : Head) (t : List ℕ) (unset : h.rules ≡ given_rules h.rule h.ves
           let known = number_same (places_of t) h t b (adds_on h t a) (adds_sound h t a) c in
           let none = asks_none h.rules (rw unset (given_unstirred h.rule h.vessels a.rule_known a.vessels_fit)) c in
           let z : number (places_of t) b c ≡ 0 = sym known ∙ e in
-          omega (arith, counted, length_pieces h.pieces t, count_kept (places_of t) b c z none, (keeps (places_of t) b c (adds_sound h t a) z).tally)
+          omega (arith, counted, length_pieces h.pieces t, count_kept (places_of t) b c none, (keeps (places_of t) b c (adds_sound h t a) z).tally)
 
 abbrev AsBefore : List Call → Type 0
 AsBefore cs = (h : Head) (t : List ℕ) → h.rules ≡ given_rules h.rule h.vessels → h.pieces ≤ h.accepted → calls_on h t cs ≡ one_rule_calls h t cs
@@ -122,7 +131,7 @@ never_set (c ∷ cs) h t unset counted = go (sets_rule c) refl (never_set cs)
     go true e rest = rest h t unset counted
     go false e rest =
         let o = call_on h t c in
-        rw (← (as_before h t unset counted c e)) (ap (noted c o) (rest o.head o.table (still_unset h t unset counted c e) (still_counted h t unset counted c)))
+        rw (← (as_before h t unset counted c e)) (ap (noted h c o) (rest o.head o.table (still_unset h t unset counted c e) (still_counted h t unset counted c)))
 
 -- so from any opening on
 pub opened_unset : (rule size : ℕ) → let h = (opening rule size).head in (h.rules ≡ given_rules h.rule h.vessels) × (h.pieces ≤ h.accepted)

@@ -5,7 +5,7 @@
 -- The idea: the same pieces are picked, by the source's rule, whoever they are handed to. What was lifted lies last, in picked order, and nothing else is
 -- on that scale, which has no rule. So the tip sweeps just that, and hands it on as if it had been handed there at once.
 -- Assumes nothing.
-use Rattle.std.proofs.Common.{◌≡◌, refl, sym, ap, ◌∙◌, ◌≢◌, List, [], ◌∷◌, ◌++◌, ℕ, ◌+◌, ◌*◌, ◌≤◌, ◌<◌, add-zero, arith, leb, ltb, length, drop, drop_at}
+use Rattle.std.proofs.Common.{◌≡◌, refl, sym, ap, ◌∙◌, ◌≢◌, List, [], ◌∷◌, ◌++◌, ℕ, ◌+◌, ◌*◌, ◌≤◌, ◌<◌, add-zero, arith, T, leb, ltb, length, drop, drop_at}
 use Rattle.std.proofs.lemmas.Bool.Decides.{nat_tests}
 use Rattle.table.specs.declared.Piece.{Piece}
 use Rattle.table.specs.Pieces.{held, All}
@@ -15,16 +15,17 @@ use Rattle.table.proofs.Table.{length_flat, quad_is}
 use Rattle.taking.specs.Taking.{taken, handed}
 use Rattle.taking.proofs.Handed.{handed_all}
 use Rattle.taking.proofs.Sweeping.{none_held, swept_whole, passed_on}
-use Rattle.refusal.specs.Numbers.{TOP, ◌if◌, first}
+use Rattle.refusal.specs.Numbers.{TOP, Check, ◌if◌, first}
+use Rattle.refusal.proofs.Numbers.{named, first_append}
 use Rattle.book.specs.declared.Transfer.{Transfer}
 use Rattle.book.specs.Head.{Book, as_they_lie, rule_at}
 use Rattle.book.specs.Motion.{of_book, takes, pieces_after}
 use Rattle.book.specs.Transfer.{transfer_checks, motion_of}
-use Rattle.book.specs.Scale.{lift_part, tip_part, lift_checks, tip_checks, lift_motion}
-use Rattle.book.specs.Calls.{post, lifting, tipping, tip_on, Meaning, meaning}
+use Rattle.book.specs.Scale.{lift_terms, tip_terms, lift_part, tip_part, lift_checks, tip_checks, lift_motion}
+use Rattle.book.specs.Calls.{post, motion_on, posting_meaning, Meaning, meaning}
 use Rattle.book.proofs.RuleLaws.{rule_beyond}
 use Rattle.book.proofs.Checks.{fit, LiftFit, lift_fit}
-use Rattle.book.proofs.Sound.{own, SoundBook, takes_fair, after_length, held_after, tip_length, accepted_own}
+use Rattle.book.proofs.Sound.{own, SoundBook, takes_fair, after_length, held_after, all_taken}
 
 -- pieces laid on a table where as many lay
 lay_again : (ps qs : List Piece) (t : List ℕ) → length qs ≡ length ps → lay qs (lay ps t) ≡ lay qs t
@@ -32,16 +33,19 @@ lay_again ps qs t e =
     let k : length (flat ps) ≡ 4 * length qs = length_flat ps ∙ rw e (sym (quad_is (length ps))) in
     ap (λ (l : List ℕ). flat qs ++ l) (drop_at (flat ps) (drop (4 * length ps) t) (4 * length qs) k ∙ rw e)
 
+accepted_own : (places n : ℕ) (cs : List Check) → T (named cs) → first (cs ++ (11 if ltb places n ∷ [])) ≡ 0 → (first cs ≡ 0) × (n ≤ places)
+accepted_own places n cs ok e = let a = first_append cs (11 if ltb places n ∷ []) ok in grind (arith, nat_tests)
+
 module _ (scale places : ℕ) (b : Book) (x : Transfer) where
   -- the transfer, its lift onto that scale, and its tip; and the book between these two
   abbrev pub whole : Meaning
   whole = meaning (post x)
 
   abbrev pub up : Meaning
-  up = lifting scale (lift_part x)
+  up = posting_meaning (lift_terms scale (lift_part x))
 
   abbrev pub down : Meaning
-  down = tipping scale (tip_part x)
+  down = posting_meaning (tip_terms scale (tip_part x))
 
   abbrev pub lifted : Book
   lifted = up.next b
@@ -52,13 +56,16 @@ module _ (scale places : ℕ) (b : Book) (x : Transfer) where
     pub both_pass : own places b whole ≡ 0 → (own places b up ≡ 0) × (own places lifted down ≡ 0)
     pub same_book : own places b whole ≡ 0 → down.next lifted ≡ whole.next b
     pub same_table : own places b whole ≡ 0 → (t : List ℕ) → down.table lifted (up.table b t) ≡ whole.table b t
-    pub same_answer : (up.answer b ≡ whole.answer b) × (up.even b ≡ whole.even b)
+    pub same_answer : ((up.told b).answer ≡ (whole.told b).answer) × (up.even b ≡ whole.even b)
     -- where the lift is accepted, the transfer has the tip's number, or 6 where it goes back to its source
     pub tip_decides : own places b up ≡ 0 → x.source ≢ x.destination → own places b whole ≡ own places lifted down
     pub same_vessel : own places b up ≡ 0 → x.source ≡ x.destination → own places b whole ≡ 6
     -- where the lift is refused, so is the transfer; and with the same number, if nothing is amiss with the destination
     pub lift_decides : own places b up ≢ 0 → own places b whole ≢ 0
     pub lift_number : x.destination < b.vessels → x.source ≢ x.destination → held x.destination b.pieces + x.weight ≤ TOP → own places b whole ≡ own places b up
+
+  tip_length : (k : Book) → length (pieces_after k (motion_on (tip_terms scale (tip_part x)) k)) ≡ length k.pieces
+  tip_length k = let m = motion_on (tip_terms scale (tip_part x)) k in omega (arith, after_length k m, all_taken k m refl)
 
   -- The same pieces are picked, whoever they are handed to.
   same_taken : takes b (lift_motion scale (lift_part x)) ≡ takes b (motion_of x)
@@ -68,17 +75,17 @@ module _ (scale places : ℕ) (b : Book) (x : Transfer) where
   same_length : length lifted.pieces ≡ length (pieces_after b (motion_of x))
   same_length = after_length b (lift_motion scale (lift_part x)) ∙ rw same_taken (sym (after_length b (motion_of x)))
 
-  same_said : (up.answer b ≡ whole.answer b) × (up.even b ≡ whole.even b)
+  same_said : ((up.told b).answer ≡ (whole.told b).answer) × (up.even b ≡ whole.even b)
   same_said = rw same_taken (refl, refl)
 
   -- what a transfer and a lift pass where they are accepted
   post_passed : own places b whole ≡ 0 → (first (transfer_checks (of_book b) x) ≡ 0) × (length (pieces_after b (motion_of x)) ≤ places)
   unfolding transfer_checks
-  post_passed e = accepted_own places b (motion_of x) (transfer_checks (of_book b) x) tt e
+  post_passed e = accepted_own places (length (pieces_after b (motion_of x))) (transfer_checks (of_book b) x) tt e
 
   lift_passed : own places b up ≡ 0 → (first (lift_checks scale (of_book b) (lift_part x)) ≡ 0) × (length lifted.pieces ≤ places)
   unfolding lift_checks
-  lift_passed e = accepted_own places b (lift_motion scale (lift_part x)) (lift_checks scale (of_book b) (lift_part x)) tt e
+  lift_passed e = accepted_own places (length lifted.pieces) (lift_checks scale (of_book b) (lift_part x)) tt e
 
   module _ (weighty : All (λ p. 1 ≤ p.weight) b.pieces) (beyond : b.vessels ≤ scale) (bare : held scale b.pieces ≡ 0) (ruleless : rule_at b.rules scale ≡ as_they_lie) where
     -- where the lift passes its checks
@@ -93,22 +100,22 @@ module _ (scale places : ℕ) (b : Book) (x : Transfer) where
       in_others : x.source ≢ x.destination → x.destination < b.vessels → held x.destination lifted.pieces ≡ held x.destination b.pieces
       in_others apart inside = grind (arith, nat_tests, held_after b (lift_motion scale (lift_part x)) x.destination)
 
-      same_pieces : pieces_after lifted (tip_on scale lifted (tip_part x)) ≡ pieces_after b (motion_of x)
+      same_pieces : pieces_after lifted (motion_on (tip_terms scale (tip_part x)) lifted) ≡ pieces_after b (motion_of x)
       unfolding takes taken
       same_pieces =
           let lift = lift_motion scale (lift_part x) in
-          let tip = tip_on scale lifted (tip_part x) in
+          let tip = motion_on (tip_terms scale (tip_part x)) lifted in
           let fair = takes_fair b lift in
-          let still = handed_all lift.moves b.pieces _ fair (λ p. 1 ≤ p.weight) (λ p. 1 ≤ p.weight) (λ p w u q. u) (λ p q. q) (λ p e q. q) (λ u. u) weighty in
+          let unmoved = handed_all lift.moves b.pieces _ fair (λ p. 1 ≤ p.weight) (λ p. 1 ≤ p.weight) (λ p w u q. u) (λ p q. q) (λ p e q. q) (λ u. u) weighty in
           let rest = (fair.keeps (λ p. p.holder ≢ scale) (λ p w u q. q) (none_held scale b.pieces weighty bare)).0 in
-          ap (λ (rule : ℕ). handed tip.moves (taken rule tip.moves lifted.pieces)) ruleless ∙ ap (handed tip.moves) (swept_whole tip.moves lifted.pieces still refl) ∙ passed_on lift.moves tip.moves (motion_of x).moves (takes b lift) rest refl refl refl refl
+          ap (λ (rule : ℕ). handed tip.moves (taken rule tip.moves lifted.pieces)) ruleless ∙ ap (handed tip.moves) (swept_whole tip.moves lifted.pieces unmoved refl) ∙ passed_on lift.moves tip.moves (motion_of x).moves (takes b lift) rest refl refl refl refl
 
       next_is : down.next lifted ≡ whole.next b
       next_is = λ i. record { rule = b.rule; vessels = b.vessels; last = x.minute; accepted = add-zero (b.accepted + 1) i; rules = b.rules; pieces = same_pieces i }
 
       table_is : (t : List ℕ) → down.table lifted (up.table b t) ≡ whole.table b t
       table_is t =
-          lay_again lifted.pieces (pieces_after lifted (tip_on scale lifted (tip_part x))) t (tip_length scale lifted (tip_part x))
+          lay_again lifted.pieces (pieces_after lifted (motion_on (tip_terms scale (tip_part x)) lifted)) t (tip_length lifted)
           ∙ ap (λ (ps : List Piece). lay ps t) same_pieces
 
       -- the tip's number: what was lifted is there and no time has passed, so that the destination alone decides; and so it is with the transfer's

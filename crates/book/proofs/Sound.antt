@@ -3,7 +3,7 @@
 -- for transfer, lift and tip, over whatever rule their source has; each kind of call has one clause of `keeps`. The count of pieces goes on as document 01
 -- says where the pick is by one of the four first rules, which give at most one piece more (`count_kept`).
 -- Assumes nothing.
-use Rattle.std.proofs.Common.{◌≡◌, refl, sym, ◌↔◌, ◌≢◌, true, false, List, [], ◌∷◌, ◌++◌, ℕ, suc, ◌+◌, ◌-◌, ◌*◌, ◌≤◌, ◌<◌, min, arith, T, ltb, eqb, length, drop, length-append, length-drop}
+use Rattle.std.proofs.Common.{◌≡◌, ◌⊎◌, refl, sym, ◌↔◌, ◌≢◌, true, false, List, [], ◌∷◌, ◌++◌, ℕ, zero, suc, ◌+◌, ◌-◌, ◌*◌, ◌≤◌, ◌<◌, min, arith, T, ltb, eqb, length, drop, length-append, length-drop}
 use Rattle.std.proofs.lemmas.Bool.Decides.{nat_tests}
 use borrow.Author.Tests.{eqb-false}
 use Rattle.table.specs.declared.Piece.{Piece}
@@ -16,19 +16,15 @@ use Rattle.taking.proofs.Stirring.{taken_fair, taken_singly, none_split}
 use Rattle.taking.proofs.Handed.{handed_length, handed_held, handed_all}
 use Rattle.refusal.specs.Numbers.{TOP, Check, ◌if◌, or_else, first, if_zero}
 use Rattle.refusal.proofs.Numbers.{named, first_append}
-use Rattle.book.specs.declared.Transfer.{Transfer}
-use Rattle.book.specs.declared.Lift.{Lift}
-use Rattle.book.specs.declared.Tip.{Tip}
-use Rattle.book.specs.declared.Setting.{Setting}
 use Rattle.book.specs.declared.Motion.{Motion}
 use Rattle.book.specs.Head.{Book, the_scale, last_rule, most_vessels, is_holder, rule_at, rules_fit}
-use Rattle.book.specs.Motion.{of_book, takes, pieces_after, book_after}
-use Rattle.book.specs.Transfer.{transfer_checks, motion_of}
-use Rattle.book.specs.Scale.{lift_checks, tip_checks, lift_motion}
-use Rattle.book.specs.Calls.{Call, post, lift, tip, set_rule, ask, answer_of, even_of, tip_on, Meaning, taking, meaning}
+use Rattle.book.specs.Motion.{Standing, of_book, Terms, takes, pieces_after, book_after}
+use Rattle.book.specs.Transfer.{transfer_checks}
+use Rattle.book.specs.Scale.{lift_checks, tip_checks}
+use Rattle.book.specs.Calls.{Posting, by_transfer, by_lift, by_tip, terms, Call, enter, set_rule, ask, answer_of, even_of, Meaning, place_checks, motion_on, posting_meaning, meaning}
 use Rattle.book.specs.Lists.{asks_stirred}
 use Rattle.book.proofs.RuleLaws.{set_fit}
-use Rattle.book.proofs.Checks.{fit, lift_fit, tip_fit, SettingFit, setting_fit}
+use Rattle.book.proofs.Checks.{fit, lift_fit, tip_fit, setting_fit}
 
 -- the number that a call's own checks give it on a book, and its number on a book that adds up
 abbrev pub own : ℕ → Book → Meaning → ℕ
@@ -131,100 +127,90 @@ module _ (b : Book) (m : Motion) where
   pub motion_light : ((v : ℕ) → held v b.pieces ≤ TOP) → held m.moves.destination b.pieces + m.moves.weight ≤ TOP → (v : ℕ) → held v (pieces_after b m) ≤ TOP
   motion_light light room v = rw held_after (grind (arith, nat_tests, light v))
 
--- The number of what takes weight from a vessel, by its checks cs: 1, then those, then 11.
-module _ (places : ℕ) (b : Book) (m : Motion) (cs : List Check) (ok : T (named cs)) where
-  abbrev after : List Piece
-  after = pieces_after b m
+-- What a posting's checks tell of it where none applies.
+pub record Fits (p : Terms) (g : Standing) : Type 0 where
+  pub from_vessel : 1 ≤ p.counts → p.source < g.vessels
+  -- into a vessel, or onto the scale while it is bare
+  pub into : (p.destination < g.vessels) ⊎ ((p.destination ≡ the_scale) × (g.balance the_scale ≡ 0))
+  pub forward : g.last ≤ p.minute
+  pub past : p.birth ≤ p.minute
 
-  abbrev pub taking_own : ℕ
-  taking_own = first (cs ++ (11 if ltb places (length after) ∷ []))
+-- The law of each that can be posted.
+pub record Proper (p : Terms) : Type 0 where
+  -- no check has the number 0
+  pub named : (g : Standing) → T (named (p.checks g))
+  pub once : p.counts ≤ 1
+  -- what does not count moves all that its source holds
+  pub sweeps : p.counts ≡ 0 → (g : Standing) → p.weight g ≡ g.balance p.source
+  pub fits : (g : Standing) → first (p.checks g) ≡ 0 → Fits p g
 
-  pub taking_own_is : taking_own ≡ if_zero (first cs) (or_else (11 if ltb places (length after)) 0) (first cs)
-  taking_own_is = first_append cs (11 if ltb places (length after) ∷ []) ok
+pub proper : (p : Posting) → Proper (terms p)
+unfolding transfer_checks lift_checks tip_checks
+proper (by_transfer x) = record { named = λ g. tt; once = omega arith; sweeps = λ z. absurd (omega arith); fits = λ g e. grind (arith, fit g x) }
+proper (by_lift x) = record { named = λ g. tt; once = omega arith; sweeps = λ z. absurd (omega arith); fits = λ g e. grind (arith, lift_fit the_scale g x) }
+proper (by_tip y) = record { named = λ g. tt; once = omega arith; sweeps = λ z g. refl; fits = λ g e. grind (arith, tip_fit the_scale g y) }
 
-  pub accepted_own : taking_own ≡ 0 → (first cs ≡ 0) × (length after ≤ places)
-  accepted_own h = grind (arith, nat_tests, taking_own_is)
+-- 11 of what counts
+place_is : (n places : ℕ) (ps : List Piece) → first (place_checks n places ps) ≡ if_zero n 0 (or_else (11 if ltb places (length ps)) 0)
+place_is zero places ps = refl
+place_is (suc n) places ps = refl
 
-  abbrev pub taking_number : ℕ
-  taking_number = or_else (1 if eqb places 0) taking_own
+-- What is posted: its number, and what it leaves.
+module _ (p : Terms) (ok : Proper p) (places : ℕ) (b : Book) where
+  abbrev m : Motion
+  m = motion_on p b
 
-  pub accepted_number : taking_number ≡ 0 → (first cs ≡ 0) × (length after ≤ places)
-  accepted_number h = accepted_own (grind arith)
+  abbrev pub of_checks : ℕ
+  of_checks = first (p.checks (of_book b))
 
--- what a tip takes: all that is on its scale, so that nothing is split or born
-pub tip_whole : (scale : ℕ) (b : Book) (y : Tip) → (takes b (tip_on scale b y)).split + (takes b (tip_on scale b y)).born ≡ 0
-tip_whole scale b y = all_taken b (tip_on scale b y) refl
+  pub posted_own : own places b (posting_meaning p) ≡ if_zero of_checks (if_zero p.counts 0 (or_else (11 if ltb places (length (pieces_after b m))) 0)) of_checks
+  posted_own = rw (← (place_is p.counts places (pieces_after b m))) (first_append (p.checks (of_book b)) _ (ok.named (of_book b)))
 
-pub tip_length : (scale : ℕ) (b : Book) (y : Tip) → length (pieces_after b (tip_on scale b y)) ≡ length b.pieces
-tip_length scale b y = omega (arith, after_length b (tip_on scale b y), tip_whole scale b y)
+  -- what does not count splits nothing, and nothing is born
+  pub whole : p.counts ≡ 0 → (takes b m).split + (takes b m).born ≡ 0
+  whole z = all_taken b m (ok.sweeps z (of_book b))
 
--- each call's own checks let a motion through that is sane
-module _ (b : Book) where
-  pub post_sane : (x : Transfer) → first (transfer_checks (of_book b) x) ≡ 0 → Sane b (motion_of x)
-  post_sane x e = grind (arith, nat_tests, fit (of_book b) x)
+  -- the count of pieces goes on as that of transfers does, but for the even ones, where the pick is by one of the four first rules
+  pub posted_count : rule_at b.rules p.source ≢ stirred_rule
+      → length (pieces_after b m) + if_zero p.counts 0 (even_of (answer_of (takes b m))) ≡ length b.pieces + p.counts
+  posted_count first = let one = ok.once in grind (arith, after_length b m, one_more b m first, whole)
 
-  pub lift_sane : (x : Lift) → first (lift_checks the_scale (of_book b) x) ≡ 0 → Sane b (lift_motion the_scale x)
-  lift_sane x e = grind (arith, nat_tests, lift_fit the_scale (of_book b) x)
+  pub posted_fits : SoundBook places b → own places b (posting_meaning p) ≡ 0 → (of_checks ≡ 0) × (length (pieces_after b m) ≤ places)
+  posted_fits o e = grind (arith, nat_tests, posted_own, after_length b m, whole, o.fits)
 
-  pub tip_sane : (y : Tip) → first (tip_checks the_scale (of_book b) y) ≡ 0 → Sane b (tip_on the_scale b y)
-  tip_sane y e = grind (arith, nat_tests, tip_fit the_scale (of_book b) y, tip_whole the_scale b y)
+  posted_sane : of_checks ≡ 0 → Sane b m
+  posted_sane e = let f = ok.fits (of_book b) e in let one = ok.once in grind (arith, nat_tests, whole, f.into)
 
--- the number of a transfer and of a lift, by its parts
-pub post_number : (places : ℕ) (b : Book) (x : Transfer) → number places b (post x) ≡ 0
-    → (first (transfer_checks (of_book b) x) ≡ 0) × (length (pieces_after b (motion_of x)) ≤ places)
-unfolding number transfer_checks
-post_number places b x e = accepted_number places b (motion_of x) (transfer_checks (of_book b) x) tt e
+  pub posted_keeps : SoundBook places b → own places b (posting_meaning p) ≡ 0 → Keeps places b (posting_meaning p)
+  posted_keeps o e =
+      let a = posted_fits o e in
+      record {
+        sound = motion_sound b m (posted_sane a.0) places o a.1;
+        lies = λ t l. laid places b.pieces _ t a.1 l;
+        long = λ t l. laid_long places b.pieces _ t a.1 l;
+        tally = omega arith;
+      }
 
-pub lift_number : (places : ℕ) (b : Book) (x : Lift) → number places b (lift x) ≡ 0
-    → (first (lift_checks the_scale (of_book b) x) ≡ 0) × (length (pieces_after b (lift_motion the_scale x)) ≤ places)
-unfolding number lift_checks
-lift_number places b x e = accepted_number places b (lift_motion the_scale x) (lift_checks the_scale (of_book b) x) tt e
-
-pub tip_number : (places : ℕ) (b : Book) (y : Tip) → number places b (tip y) ≡ 0 → first (tip_checks the_scale (of_book b) y) ≡ 0
+-- a call that is accepted has passed its own checks
+pub passed_own : (places : ℕ) (b : Book) (c : Call) → number places b c ≡ 0 → own places b (meaning c) ≡ 0
 unfolding number
-tip_number places b y e = grind arith
+passed_own places b c e = grind arith
 
-pub set_number : (places : ℕ) (b : Book) (s : Setting) → number places b (set_rule s) ≡ 0 → SettingFit b.vessels s
-unfolding number
-set_number places b s e = setting_fit b.vessels s (grind arith)
-
--- what takes weight from a vessel, and counts as one
-taking_keeps : (places : ℕ) (b : Book) (checks : Book → List Check) (m : Motion) → Sane b m → m.counts ≡ 1 → SoundBook places b
-    → length (pieces_after b m) ≤ places → Keeps places b (taking checks m)
-taking_keeps places b checks m f one o h = record {
-  sound = motion_sound b m f places o h;
-  lies = λ t l. laid places b.pieces _ t h l;
-  long = λ t l. laid_long places b.pieces _ t h l;
-  tally = omega arith;
-}
-
+-- Each kind of call has one clause.
 pub keeps : (places : ℕ) (b : Book) (c : Call) → SoundBook places b → number places b c ≡ 0 → Keeps places b (meaning c)
+keeps places b (enter p) o e = posted_keeps (terms p) (proper p) places b o (passed_own places b (enter p) e)
 keeps places b (ask q room) o e = record { sound = o; lies = λ t l. l; long = λ t l. refl; tally = omega arith }
 keeps places b (set_rule s) o e =
-    let f = set_number places b s e in
+    let f = setting_fit b.vessels s (passed_own places b (set_rule s) e) in
     record {
       sound = grind (arith, set_fit b.vessels s.vessel s.rule b.rules f.vessel_in f.rule_known o.rules_known);
       lies = λ t l. l;
       long = λ t l. refl;
       tally = omega arith;
     }
-keeps places b (post x) o e = let a = post_number places b x e in taking_keeps places b _ (motion_of x) (post_sane b x a.0) refl o a.1
-keeps places b (lift x) o e = let a = lift_number places b x e in taking_keeps places b _ (lift_motion the_scale x) (lift_sane b x a.0) refl o a.1
-keeps places b (tip y) o e =
-    let same = tip_length the_scale b y in
-    let h : length (pieces_after b (tip_on the_scale b y)) ≤ places = rw same o.fits in
-    record {
-      sound = motion_sound b (tip_on the_scale b y) (tip_sane b y (tip_number places b y e)) places o h;
-      lies = λ t l. laid places b.pieces _ t h l;
-      long = λ t l. laid_long places b.pieces _ t h l;
-      tally = omega arith;
-    }
 
 -- The count of pieces goes on as that of transfers does, but for the even ones, where the pick is by one of the four first rules.
-pub count_kept : (places : ℕ) (b : Book) (c : Call) → number places b c ≡ 0 → asks_stirred b.rules c ≡ false
+pub count_kept : (places : ℕ) (b : Book) (c : Call) → asks_stirred b.rules c ≡ false
     → length ((meaning c).next b).pieces + (meaning c).even b ≡ length b.pieces + (meaning c).counts
-count_kept places b (ask q room) e u = omega arith
-count_kept places b (set_rule s) e u = omega arith
-count_kept places b (post x) e u = omega (arith, after_count b (motion_of x) (eqb-false _ _ u))
-count_kept places b (lift x) e u = omega (arith, after_count b (lift_motion the_scale x) (eqb-false _ _ u))
-count_kept places b (tip y) e u = omega (arith, tip_length the_scale b y)
+count_kept places b (enter p) u = posted_count (terms p) (proper p) places b (eqb-false _ _ u)
+count_kept places b c u = omega arith

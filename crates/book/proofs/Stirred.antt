@@ -23,7 +23,7 @@ use Rattle.book.specs.Head.{the_scale, rule_at}
 use Rattle.book.specs.Motion.{takes}
 use Rattle.book.specs.Transfer.{motion_of}
 use Rattle.book.specs.Scale.{lift_motion}
-use Rattle.book.specs.Calls.{post, lift, answer_of}
+use Rattle.book.specs.Calls.{post, lift, answer_of, no_answer}
 use Rattle.book.specs.Memory.{Outcome, call_on}
 use Rattle.book.proofs.Memory.{call_number}
 use Rattle.book.proofs.InWords.{accepted_book}
@@ -42,7 +42,7 @@ pub record GivesFromAll (m : Move) (ps : List Piece) (t : List ℕ) (o : Outcome
 pub record GivesAll (m : Move) (ps : List Piece) (t : List ℕ) (o : Outcome) : Type 0 where
   pub table : let missing = m.weight - held m.source ps in
       o.table ≡ lay (elsewhere m.source ps ++ (map (hand_to m.destination) (held_by m.source ps) ++ if_any (newborn m missing))) t
-  pub answer : o.answer ≡ record { whole = length (held_by m.source ps); split = 0; born = m.weight - held m.source ps }
+  pub answer : o.answer ≡ record no_answer { whole = length (held_by m.source ps); split = 0; born = m.weight - held m.source ps }
 
 pub record FromStirred (m : Move) (ps : List Piece) (t : List ℕ) (o : Outcome) : Type 0 where
   pub below : m.weight < held m.source ps → GivesFromAll m ps t o

@@ -12,8 +12,8 @@ use Rattle.refusal.specs.Numbers.{TOP, first}
 use Rattle.book.specs.declared.Head.{Head}
 use Rattle.book.specs.declared.Transfer.{Transfer}
 use Rattle.book.specs.Head.{Book, the_scale, balance_at, head_of, book_of}
-use Rattle.book.specs.Scale.{lift_part, tip_part}
-use Rattle.book.specs.Calls.{Call, post, lift, tip, lifting, tipping, meaning}
+use Rattle.book.specs.Scale.{lift_terms, tip_terms, lift_part, tip_part}
+use Rattle.book.specs.Calls.{Call, post, lift, tip, posting_meaning, meaning}
 use Rattle.book.specs.Memory.{Outcome, outcome, book_checks, call_on}
 use Rattle.book.proofs.Sound.{own, number, SoundBook}
 use Rattle.book.proofs.Memory.{On, InStep, call_number, accepted_on, off_number, passed_book, book_passed, number_same, back, in_step}
@@ -90,7 +90,7 @@ module _ (h : Head) (t : List ℕ) (x : Transfer) where
             let n = sym (number_same places h t b held_on sound (lift (lift_part x))) ∙ sym (call_number h t (lift (lift_part x))) ∙ z in
             subst (λ (n : ℕ). InStep places h t b held_on sound (lift (lift_part x)) n) n (in_step places h t b held_on sound (lift (lift_part x)))
 
-        down_number : down.number ≡ own places (lifted the_scale places b x) (tipping the_scale (tip_part x))
+        down_number : down.number ≡ own places (lifted the_scale places b x) (posting_meaning (tip_terms the_scale (tip_part x)))
         down_number = own_number up.head up.table _ step.holds step.sound (tip (tip_part x))
 
         -- and the transfer too
@@ -134,7 +134,7 @@ module _ (h : Head) (t : List ℕ) (x : Transfer) where
       lift_first : whole.number ≡ 0 → up.number ≡ 0
       lift_first w = number_is (lift (lift_part x)) ∙ (common.both_pass (sym (number_is (post x)) ∙ w)).0
 
-      accepted : up.number ≡ 0 → own places b (lifting the_scale (lift_part x)) ≡ 0
+      accepted : up.number ≡ 0 → own places b (posting_meaning (lift_terms the_scale (lift_part x))) ≡ 0
       accepted z = sym (number_is (lift (lift_part x))) ∙ z
 
       on : Succession h t x whole up down
@@ -160,10 +160,10 @@ succession h t x bare = go (first (book_checks h t)) refl
 -- scale has any number that is no vessel's and holds nothing.
 pub beside_the_load : (h : Head) (t : List ℕ) (x : Transfer) (scale : ℕ) → h.vessels ≤ scale → held scale (book_of h t).pieces ≡ 0 → (call_on h t (post x)).number ≡ 0
     → let now = book_of h t in
-    let up = lifting scale (lift_part x) in
-    let down = tipping scale (tip_part x) in
+    let up = posting_meaning (lift_terms scale (lift_part x)) in
+    let down = posting_meaning (tip_terms scale (tip_part x)) in
     call_on h t (post x)
-    ≡ record { number = 0; answer = up.answer now; head = head_of (down.next (up.next now)); table = down.table (up.next now) (up.table now t); room = []; even = up.even now }
+    ≡ record { number = 0; answer = (up.told now).answer; head = head_of (down.next (up.next now)); table = down.table (up.next now) (up.table now t); room = []; even = up.even now }
 beside_the_load h t x scale beyond empty w =
     let z = sym (call_number h t (post x)) ∙ w in
     let e = passed_book h t (post x) z in

@@ -4,57 +4,45 @@
 use Rattle.std.proofs.Common.{◌≡◌, refl, Bool, true, false, List, [], ◌∷◌, ℕ, zero, suc, arith, ne_eqb}
 use Rattle.std.specs.List.{list_all}
 use borrow.Author.Tests.{eqb-false}
+use Rattle.table.specs.Table.{places_of}
 use Rattle.book.specs.declared.Head.{Head}
-use Rattle.book.specs.Head.{opening}
-use Rattle.book.specs.Calls.{Call, post, lift, tip, set_rule, ask}
+use Rattle.book.specs.Head.{Book, opened, opening}
+use Rattle.book.specs.Calls.{Call, enter, set_rule, terms, meaning}
 use Rattle.book.specs.Memory.{call_on}
-use Rattle.book.specs.Lists.{calls_on, answered, asks_stirred, stirs, sets_stirred, sets_none}
+use Rattle.book.specs.Lists.{Entry, calls_on, answered, asks_stirred, stirs, sets_stirred, sets_none}
 use Rattle.book.proofs.RuleLaws.{Unstirred, given_unstirred, set_unstirred}
-use Rattle.book.proofs.Memory.{refused_memory, rules_kept}
+use Rattle.book.proofs.Sound.{number, SoundBook}
+use Rattle.book.proofs.Along.{step, entry, from_opening}
 use Rattle.book.proofs.HeadLaws.{opening_passed, openable}
 
 -- where no vessel has the rule, no call asks for it
 pub asks_none : (rules : List ℕ) → Unstirred rules → (c : Call) → asks_stirred rules c ≡ false
-asks_none rules none (post x) = ne_eqb _ _ (none x.source)
-asks_none rules none (lift x) = ne_eqb _ _ (none x.source)
-asks_none rules none (tip y) = refl
-asks_none rules none (set_rule s) = refl
-asks_none rules none (ask q room) = refl
+asks_none rules none (enter p) = ne_eqb _ _ (none (terms p).source)
+asks_none rules none c = refl
 
-module _ (h : Head) (t : List ℕ) (none : Unstirred h.rules) where
-  refused_unstirred : (c : Call) → ((call_on h t c).number ≡ 0 → ⊥) → Unstirred (call_on h t c).head.rules
-  refused_unstirred c nz = rw (refused_memory h t c nz).0 none
+-- an accepted call that sets none leaves none
+still_unstirred : (b : Book) (c : Call) → sets_stirred c ≡ false → Unstirred b.rules → Unstirred ((meaning c).next b).rules
+still_unstirred b (set_rule s) u none = set_unstirred s.vessel s.rule b.rules (eqb-false _ _ u) none
+still_unstirred b c u none = none
 
-  still_unstirred : (c : Call) → sets_stirred c ≡ false → Unstirred (call_on h t c).head.rules
-  unfolding call_on
-  still_unstirred (post x) u = rw (rules_kept h t (post x) refl) none
-  still_unstirred (lift x) u = rw (rules_kept h t (lift x) refl) none
-  still_unstirred (tip y) u = rw (rules_kept h t (tip y) refl) none
-  still_unstirred (set_rule s) u = let set = set_unstirred s.vessel s.rule h.rules (eqb-false _ _ u) none in λ v. grind (arith, none v, set v)
-  still_unstirred (ask q room) u = rw (rules_kept h t (ask q room) refl) none
+module _ (places : ℕ) where
+  abbrev Unused : Book → List Entry → Book → Type 0
+  Unused b es z = Unstirred b.rules → sets_none (answered es) ≡ true → stirs es ≡ false
 
-abbrev Unused : List Call → Type 0
-Unused cs = (h : Head) (t : List ℕ) → Unstirred h.rules → sets_none (answered (calls_on h t cs).log) ≡ true → stirs h t cs ≡ false
-
-pub unused : (cs : List Call) → Unused cs
-unfolding stirs calls_on
-unused [] h t none e = refl
-unused (c ∷ cs) h t none e = go (call_on h t c).number refl (unused cs)
-  where
-    go : (n : ℕ) → (call_on h t c).number ≡ n → Unused cs → stirs h t (c ∷ cs) ≡ false
-    go zero z rest =
-        let r = rw z at e in
-        let one : sets_stirred c ≡ false = grind arith in
-        rw (asks_none h.rules none c) (rest _ _ (still_unstirred h t none c one) (grind arith))
-    go (suc n) z rest = rw (asks_none h.rules none c) (rest _ _ (refused_unstirred h t none c (λ q. grind arith)) (rw z at e))
+  more : (b : Book) (c : Call) (es : List Entry) (z : Book) → SoundBook places b → Unused (step places b c) es z → Unused b (entry places b c ∷ es) z
+  more b c es z o rest none e = rw (asks_none b.rules none c) (go (number places b c) refl)
+    where
+      go : (n : ℕ) → number places b c ≡ n → stirs es ≡ false
+      go zero q = let r = rw q at e in let next : Unused ((meaning c).next b) es z = rw q at rest in next (still_unstirred b c (grind arith) none) (grind arith)
+      go (suc n) q = let r = rw q at e in let next : Unused b es z = rw q at rest in next none r
 
 -- from any opening on
 pub first_rules : (rule size : ℕ) → (opening rule size).number ≡ 0 → (t : List ℕ) (cs : List Call)
-    → sets_none (answered (calls_on (opening rule size).head t cs).log) ≡ true → stirs (opening rule size).head t cs ≡ false
+    → let r = calls_on (opening rule size).head t cs in sets_none (answered r.log) ≡ true → stirs r.log ≡ false
 first_rules rule size e t cs none =
     let o = opening_passed rule size e in
-    let given : Unstirred (opening rule size).head.rules = rw o.1 (given_unstirred rule size (openable rule size o.0).rule_known (openable rule size o.0).few_vessels) in
-    unused cs _ t given none
+    let given : Unstirred (opened rule size).rules = given_unstirred rule size (openable rule size o.0).rule_known (openable rule size o.0).few_vessels in
+    (from_opening (places_of t) (Unused (places_of t)) (λ b u e. refl) (more (places_of t)) rule size e t refl cs).related given none
 
 -- what holds of all calls of a list holds of those answered 0
 pub answered_all : (p : Call → Bool) (cs : List Call) (h : Head) (t : List ℕ) → list_all p cs ≡ true → list_all p (answered (calls_on h t cs).log) ≡ true

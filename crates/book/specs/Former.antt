@@ -7,17 +7,16 @@ use Rattle.std.specs.Prelude.{Bool, ◌&&◌, not, List, [], ◌∷◌, ◌++◌
 use Rattle.table.specs.Pieces.{only}
 use Rattle.table.specs.declared.Piece.{Piece}
 use Rattle.table.specs.Table.{pieces_of, places_of}
-use Rattle.taking.specs.declared.Move.{Move}
 use Rattle.refusal.specs.Numbers.{TOP, Check, ◌if◌, first}
 use Rattle.book.specs.declared.Head.{Head}
 use Rattle.book.specs.declared.Transfer.{Transfer}
 use Rattle.book.specs.Head.{book_of, balances_of, all_of, lot_tests, every, same}
-use Rattle.book.specs.Motion.{Standing, of_book}
-use Rattle.book.specs.Transfer.{transfer_of}
+use Rattle.book.specs.Motion.{Standing}
+use Rattle.book.specs.Transfer.{transfer_of, transfer_terms}
 use Rattle.book.specs.Calls.{Meaning}
 use Rattle.book.specs.Memory.{Outcome, outcome}
 use Rattle.book.specs.WeighBook.{WeighBook}
-use Rattle.book.specs.OneRule.{former_taking, former_count_tests}
+use Rattle.book.specs.OneRule.{former_posting, former_count_tests}
 
 -- the transfer that has age 0
 abbrev pub unaged : ℕ → ℕ → ℕ → ℕ → Transfer
@@ -34,11 +33,8 @@ former_checks g s d t q =
     ∷ 10 if eqb g.accepted TOP
     ∷ []
 
-abbrev pub former_move : ℕ → ℕ → ℕ → ℕ → Move
-former_move s d t q = record { source = s; destination = d; birth = t; weight = q }
-
 abbrev pub former_meaning : ℕ → ℕ → ℕ → ℕ → Meaning
-former_meaning s d t q = former_taking (λ b. former_checks (of_book b) s d t q) (record { moves = former_move s d t q; minute = t; counts = 1 })
+former_meaning s d t q = former_posting (record (transfer_terms (unaged s d t q)) { checks = λ g. former_checks g s d t q; birth = t })
 
 -- a book that adds up, where every piece lies in a vessel, and the head has no scale and no rules of vessels
 abbrev pub former_fits : ℕ → ℕ → Piece → Bool

@@ -1,6 +1,6 @@
 -- Lists of calls, and demand 3: "Each call gets the head that the last one returned and the table as that one left it."
 -- Definitions only. Assumes nothing.
-use Rattle.std.specs.Prelude.{◌≡◌, Bool, true, false, not, ◌&&◌, ◌||◌, cond, List, [], ◌∷◌, ℕ, ◌+◌, ◌≤◌, eqb, length}
+use Rattle.std.specs.Prelude.{◌≡◌, Bool, true, false, not, ◌&&◌, ◌||◌, cond, List, [], ◌∷◌, ℕ, ◌+◌, ◌-◌, ◌≤◌, eqb, length}
 use Rattle.std.specs.List.{list_all}
 use Rattle.table.specs.Pieces.{sum, born_at, held}
 use Rattle.table.specs.Table.{places_of}
@@ -8,15 +8,16 @@ use Rattle.taking.specs.Stirring.{stirred_rule}
 use Rattle.refusal.specs.Numbers.{if_zero}
 use Rattle.book.specs.declared.Head.{Head}
 use Rattle.book.specs.Head.{Book, rule_at, book_of, adds_up, opening, opened}
-use Rattle.book.specs.Calls.{Call, post, lift, tip, set_rule, ask, meaning}
+use Rattle.book.specs.Calls.{Call, enter, set_rule, terms, meaning}
 use Rattle.book.specs.Memory.{Outcome, call_on}
 use Rattle.book.specs.WeighBook.{blank, feed, listed, forecast}
 
--- a call with its number, and how often it was an even transfer
+-- a call with its number, how often it was an even transfer, and whether it made a pick under rule 4
 pub record Entry : Type 0 where
   pub asked : Call
   pub number : ℕ
   pub even : ℕ
+  pub stirred : Bool
 
 -- the journal of a list of calls, and the head and the table after it
 pub record Journal : Type 0 where
@@ -24,14 +25,32 @@ pub record Journal : Type 0 where
   pub head : Head
   pub table : List ℕ
 
-abbrev pub noted : Call → Outcome → Journal → Journal
-noted c o r = record { log = record { asked = c; number = o.number; even = o.even } ∷ r.log; head = r.head; table = r.table }
+-- "Lists that never use rule 4": no pick is made under it. Whether a call asks for one, where the vessels have these rules, and whether its number says that it
+-- made a pick, past all its checks but 11.
+abbrev pub asks_stirred : List ℕ → Call → Bool
+asks_stirred rules (enter p) = eqb (rule_at rules (terms p).source) stirred_rule
+asks_stirred rules c = false
+
+abbrev pub picked : ℕ → Bool
+picked number = eqb number 0 || eqb number 11
+
+abbrev pub noted : Head → Call → Outcome → Journal → Journal
+noted h c o r =
+    record {
+      log = record { asked = c; number = o.number; even = o.even; stirred = asks_stirred h.rules c && picked o.number } ∷ r.log;
+      head = r.head;
+      table = r.table;
+    }
 
 unfoldable pub calls_on : Head → List ℕ → List Call → Journal
 calls_on h t [] = record { log = []; head = h; table = t }
-calls_on h t (c ∷ cs) = let o = call_on h t c in noted c o (calls_on o.head o.table cs)
+calls_on h t (c ∷ cs) = let o = call_on h t c in noted h c o (calls_on o.head o.table cs)
 
--- the calls answered 0
+-- the calls, and those answered 0
+abbrev pub all_asked : List Entry → List Call
+all_asked [] = []
+all_asked (e ∷ es) = e.asked ∷ all_asked es
+
 abbrev pub answered : List Entry → List Call
 answered [] = []
 answered (e ∷ es) = if_zero e.number (e.asked ∷ answered es) (answered es)
@@ -48,11 +67,8 @@ transfers [] = 0
 transfers (c ∷ cs) = (meaning c).counts + transfers cs
 
 abbrev pub tips_in : Call → ℕ
-tips_in (post x) = 0
-tips_in (lift x) = 0
-tips_in (tip y) = 1
-tips_in (set_rule s) = 0
-tips_in (ask q room) = 0
+tips_in (enter p) = 1 - (terms p).counts
+tips_in c = 0
 
 abbrev pub tips : List Call → ℕ
 tips [] = 0
@@ -68,39 +84,22 @@ numbers (e ∷ es) = listed e.asked e.number (numbers es)
 
 -- whether a call sets a rule, and a list without those that do
 abbrev pub sets_rule : Call → Bool
-sets_rule (post x) = false
-sets_rule (lift x) = false
-sets_rule (tip y) = false
 sets_rule (set_rule s) = true
-sets_rule (ask q room) = false
+sets_rule c = false
 
 abbrev pub without_settings : List Call → List Call
 without_settings [] = []
 without_settings (c ∷ cs) = cond (sets_rule c) (without_settings cs) (c ∷ without_settings cs)
 
--- "Lists that never use rule 4": no pick is made under it. Whether a call asks for one, where the vessels have these rules; whether its number says that it
--- made a pick, past all its checks but 11; and whether any call of a list makes one under rule 4.
-abbrev pub asks_stirred : List ℕ → Call → Bool
-asks_stirred rules (post x) = eqb (rule_at rules x.source) stirred_rule
-asks_stirred rules (lift x) = eqb (rule_at rules x.source) stirred_rule
-asks_stirred rules (tip y) = false
-asks_stirred rules (set_rule s) = false
-asks_stirred rules (ask q room) = false
-
-abbrev pub picked : ℕ → Bool
-picked number = eqb number 0 || eqb number 11
-
-unfoldable pub stirs : Head → List ℕ → List Call → Bool
-stirs h t [] = false
-stirs h t (c ∷ cs) = let o = call_on h t c in asks_stirred h.rules c && picked o.number || stirs o.head o.table cs
+-- whether any call of a journal made a pick under rule 4
+abbrev pub stirs : List Entry → Bool
+stirs [] = false
+stirs (e ∷ es) = e.stirred || stirs es
 
 -- A list in which no accepted call sets rule 4 is one of these (`first_rules`, proofs/Unstirred.antt). Whether a call sets it, and that none of these does:
 abbrev pub sets_stirred : Call → Bool
-sets_stirred (post x) = false
-sets_stirred (lift x) = false
-sets_stirred (tip y) = false
 sets_stirred (set_rule s) = eqb s.rule stirred_rule
-sets_stirred (ask q room) = false
+sets_stirred c = false
 
 abbrev pub sets_none : List Call → Bool
 sets_none cs = list_all (λ c. not (sets_stirred c)) cs
@@ -114,11 +113,11 @@ pub record Demand3 (rule size : ℕ) (t : List ℕ) (cs : List Call) (r : Journa
   -- for each origin and birth minute they sum to what the weigh book saw born
   pub birth_sums : (o m : ℕ) → sum (born_at o m) (book_of r.head r.table).pieces ≡ (feed (blank size) (answered r.log)).births o m
   -- where rule 4 is never used, pieces + even transfers = accepted transfers, with lifts as transfers and no tip counted
-  pub even_count : stirs (opening rule size).head t cs ≡ false → r.head.pieces + evens r.log ≡ r.head.accepted
+  pub even_count : stirs r.log ≡ false → r.head.pieces + evens r.log ≡ r.head.accepted
   -- the head's count is the number of transfers and lifts answered 0
   pub accepted_count : r.head.accepted ≡ transfers (answered r.log)
   -- where rule 4 is never used, and no more transfers are listed, lifts and refused ones counted, than there are places, the weigh book alone gives the
   -- number of every transfer and lift; and of every tip, if the table has at least 4 numbers
-  pub forecasts : stirs (opening rule size).head t cs ≡ false → transfers cs ≤ places_of t → (1 ≤ tips cs → 4 ≤ length t) → numbers r.log ≡ forecast (blank size) cs
+  pub forecasts : stirs r.log ≡ false → transfers cs ≤ places_of t → (1 ≤ tips cs → 4 ≤ length t) → numbers r.log ≡ forecast (blank size) cs
   -- the book adds up, so that number 4 never comes
   pub book_adds_up : adds_up r.head r.table ≡ true

@@ -9,7 +9,7 @@ use Rattle.book.specs.declared.Head.{Head}
 use Rattle.book.specs.declared.Transferred.{Transferred}
 use Rattle.book.specs.declared.Reply.{Reply}
 use Rattle.book.specs.Head.{head_of, book_of, adds_up}
-use Rattle.book.specs.Calls.{Call, Answer, no_answer, Meaning, meaning}
+use Rattle.book.specs.Calls.{Call, Answer, Told, Meaning, meaning}
 
 -- All that a call gives back and leaves, and how often it was an even transfer.
 pub record Outcome : Type 0 where
@@ -32,8 +32,10 @@ number_of h t c = first (book_checks h t ++ (meaning c).checks (places_of t) (bo
 abbrev pub outcome : Head → List ℕ → Meaning → ℕ → Outcome
 outcome h t m zero =
     let b = book_of h t in
-    record { number = 0; answer = m.answer b; head = head_of (m.next b); table = m.table b t; room = m.room b; even = m.even b }
-outcome h t m (suc n) = record { number = suc n; answer = no_answer; head = h; table = t; room = m.lent; even = 0 }
+    record { number = 0; answer = (m.told b).answer; head = head_of (m.next b); table = m.table b t; room = (m.told b).room; even = m.even b }
+outcome h t m (suc n) =
+    let r = m.refused (suc n) (places_of t) (book_of h t) in
+    record { number = suc n; answer = r.answer; head = h; table = t; room = r.room; even = 0 }
 
 -- a call on a head and a table
 unfoldable pub call_on : Head → List ℕ → Call → Outcome

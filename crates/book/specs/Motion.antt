@@ -2,6 +2,7 @@
 -- Definitions only. Assumes nothing.
 use Rattle.std.specs.Prelude.{List, ℕ, ◌+◌}
 use Rattle.table.specs.declared.Piece.{Piece}
+use Rattle.refusal.specs.Numbers.{Check}
 use Rattle.table.specs.Pieces.{held}
 use Rattle.taking.specs.Taken.{Taken}
 use Rattle.taking.specs.Taking.{taken, handed}
@@ -21,6 +22,26 @@ of_book b = record { vessels = b.vessels; balance = λ v. held v b.pieces; last 
 
 abbrev pub of_head : Head → Standing
 of_head h = record { vessels = h.vessels; balance = balance_at h; last = h.last; accepted = h.accepted }
+
+-- What is posted: a transfer, a lift, a tip. Its checks after 1 and 4; where from and where to, the birth of what is born, and the weight, on a book that looks so;
+-- its minute; and how often it counts as a transfer. What counts takes weight from a vessel, by its rule; what does not moves pieces whole.
+pub record Terms : Type 0 where
+  pub checks : Standing → List Check
+  pub source : ℕ
+  pub destination : ℕ
+  pub birth : ℕ
+  pub weight : Standing → ℕ
+  pub minute : ℕ
+  pub counts : ℕ
+
+-- the motion that it is
+abbrev pub motion : Terms → Standing → Motion
+motion p g =
+    record {
+      moves = record { source = p.source; destination = p.destination; birth = p.birth; weight = p.weight g };
+      minute = p.minute;
+      counts = p.counts;
+    }
 
 -- What a motion (the record `Motion` of src/lib.rt) takes from the book, picked by the rule of its source, and the pieces afterwards.
 unfoldable pub takes : Book → Motion → Taken

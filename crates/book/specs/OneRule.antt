@@ -8,14 +8,11 @@ use Rattle.table.specs.Table.{pieces_of, lay, places_of}
 use Rattle.taking.specs.declared.Move.{Move}
 use Rattle.taking.specs.Taken.{Taken}
 use Rattle.taking.specs.Taking.{singly, handed}
-use Rattle.refusal.specs.Numbers.{Check, ◌if◌, first}
+use Rattle.refusal.specs.Numbers.{Check, ◌if◌, first, if_zero}
 use Rattle.book.specs.declared.Head.{Head}
-use Rattle.book.specs.declared.Motion.{Motion}
-use Rattle.book.specs.Head.{Book, the_scale, book_of, all_of, balanced, count_tests}
-use Rattle.book.specs.Motion.{of_book}
-use Rattle.book.specs.Transfer.{transfer_checks, motion_of}
-use Rattle.book.specs.Scale.{lift_checks, lift_motion}
-use Rattle.book.specs.Calls.{Call, post, lift, tip, set_rule, ask, answer_of, even_of, Meaning, meaning}
+use Rattle.book.specs.Head.{Book, book_of, all_of, balanced, count_tests}
+use Rattle.book.specs.Motion.{of_book, Terms}
+use Rattle.book.specs.Calls.{Call, enter, terms, place_checks, motion_on, posting_meaning, answer_of, even_of, Meaning, meaning}
 use Rattle.book.specs.Memory.{Outcome, outcome}
 use Rattle.book.specs.Lists.{Journal, noted}
 
@@ -25,27 +22,21 @@ former_takes b x = singly b.rule x b.pieces
 abbrev pub former_pieces : Book → Move → List Piece
 former_pieces b x = handed x (former_takes b x)
 
--- what takes weight from a vessel, by the rule of the book
-abbrev pub former_taking : (Book → List Check) → Motion → Meaning
-former_taking checks m =
-    record {
-      checks = λ places b. checks b ++ (11 if ltb places (length (former_pieces b m.moves)) ∷ []);
-      answer = λ b. answer_of (former_takes b m.moves);
-      next = λ b. record { rule = b.rule; vessels = b.vessels; last = m.minute; accepted = b.accepted + m.counts; rules = b.rules; pieces = former_pieces b m.moves };
-      table = λ b. lay (former_pieces b m.moves);
-      room = λ b. [];
-      lent = [];
-      counts = 1;
-      even = λ b. even_of (answer_of (former_takes b m.moves));
+-- what is posted, by the rule of the book
+abbrev pub former_posting : Terms → Meaning
+former_posting p =
+    record (posting_meaning p) {
+      checks = λ places b. p.checks (of_book b) ++ place_checks p.counts places (former_pieces b (motion_on p b).moves);
+      told = λ b. record { answer = answer_of (former_takes b (motion_on p b).moves); room = [] };
+      next = λ b. record { rule = b.rule; vessels = b.vessels; last = p.minute; accepted = b.accepted + p.counts; rules = b.rules; pieces = former_pieces b (motion_on p b).moves };
+      table = λ b. lay (former_pieces b (motion_on p b).moves);
+      even = λ b. if_zero p.counts 0 (even_of (answer_of (former_takes b (motion_on p b).moves)));
     }
 
--- a call: what takes nothing from a vessel is as it was
+-- a call: what takes nothing is as it was
 abbrev pub one_rule : Call → Meaning
-one_rule (post x) = former_taking (λ b. transfer_checks (of_book b) x) (motion_of x)
-one_rule (lift x) = former_taking (λ b. lift_checks the_scale (of_book b) x) (lift_motion the_scale x)
-one_rule (tip y) = meaning (tip y)
-one_rule (set_rule s) = meaning (set_rule s)
-one_rule (ask q room) = meaning (ask q room)
+one_rule (enter p) = if_zero (terms p).counts (posting_meaning (terms p)) (former_posting (terms p))
+one_rule c = meaning c
 
 -- checks 1 and 4, a call's number, and the call on a head and a table
 abbrev pub former_count_tests : Head → List ℕ → List Bool
@@ -63,4 +54,4 @@ one_rule_on h t c = outcome h t (one_rule c) (one_rule_number h t c)
 -- and a list of calls
 unfoldable pub one_rule_calls : Head → List ℕ → List Call → Journal
 one_rule_calls h t [] = record { log = []; head = h; table = t }
-one_rule_calls h t (c ∷ cs) = let o = one_rule_on h t c in noted c o (one_rule_calls o.head o.table cs)
+one_rule_calls h t (c ∷ cs) = let o = one_rule_on h t c in noted h c o (one_rule_calls o.head o.table cs)

@@ -2,13 +2,13 @@
 -- A scale is told by its number. A book has one, `the_scale`, and every lift and tip is of that; what "a second, empty scale" would do is said with
 -- another number.
 -- Definitions only. Assumes nothing.
-use Rattle.std.specs.Prelude.{List, [], ◌∷◌, ℕ, ◌+◌, leb, ltb, eqb}
+use Rattle.std.specs.Prelude.{List, [], ◌∷◌, ℕ, ◌+◌, ◌-◌, leb, ltb, eqb}
 use Rattle.refusal.specs.Numbers.{TOP, Check, ◌if◌}
 use Rattle.book.specs.declared.Transfer.{Transfer}
 use Rattle.book.specs.declared.Lift.{Lift}
 use Rattle.book.specs.declared.Tip.{Tip}
 use Rattle.book.specs.declared.Motion.{Motion}
-use Rattle.book.specs.Motion.{Standing}
+use Rattle.book.specs.Motion.{Standing, Terms}
 use Rattle.book.specs.Transfer.{transfer_of, motion_of}
 
 abbrev pub lift_of : ℕ → ℕ → ℕ → ℕ → Lift
@@ -47,6 +47,31 @@ tip_checks scale g y =
     ∷ []
 
 -- A lift is a transfer onto a scale.
+abbrev pub lift_terms : ℕ → Lift → Terms
+lift_terms scale x =
+    record {
+      checks = λ g. lift_checks scale g x;
+      source = x.source;
+      destination = scale;
+      birth = x.minute - x.age;
+      weight = λ g. x.weight;
+      minute = x.minute;
+      counts = 1;
+    }
+
+-- A tip moves all the weight on a scale, so that nothing is born, and does not count.
+abbrev pub tip_terms : ℕ → Tip → Terms
+tip_terms scale y =
+    record {
+      checks = λ g. tip_checks scale g y;
+      source = scale;
+      destination = y.destination;
+      birth = y.minute;
+      weight = λ g. g.balance scale;
+      minute = y.minute;
+      counts = 0;
+    }
+
 abbrev pub lift_motion : ℕ → Lift → Motion
 lift_motion scale x = motion_of (transfer_of x.source scale x.minute x.weight x.age)
 

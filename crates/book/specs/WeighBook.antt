@@ -4,11 +4,8 @@ use Rattle.std.specs.Prelude.{Bool, true, false, ◌&&◌, cond, List, [], ◌�
 use Rattle.table.specs.Pieces.{only}
 use Rattle.refusal.specs.Numbers.{Check, first, if_zero}
 use Rattle.book.specs.declared.Motion.{Motion}
-use Rattle.book.specs.Head.{the_scale}
-use Rattle.book.specs.Motion.{Standing}
-use Rattle.book.specs.Transfer.{transfer_checks, motion_of}
-use Rattle.book.specs.Scale.{lift_checks, tip_checks, lift_motion, tip_motion}
-use Rattle.book.specs.Calls.{Call, post, lift, tip, set_rule, ask}
+use Rattle.book.specs.Motion.{Standing, Terms, motion}
+use Rattle.book.specs.Calls.{Call, enter, terms}
 
 -- "weight W of each vessel, births B of each vessel and minute, last minute, accepted; all 0 at first"; the scale's weight is that of holder 64
 pub record WeighBook : Type 0 where
@@ -44,15 +41,19 @@ pub record Weighing : Type 0 where
   pub next : WeighBook → WeighBook
   pub forecasts : Bool
 
--- "it checks 5 to 10 .. with W as balance", and "21 as the transfer does"; "a lift is to it a transfer onto the scale, a tip moves all its
--- weight there to d, sets last and leaves accepted. It makes their checks as it makes a transfer's, gives 22 and 23 by its own weight there";
+-- What is posted it checks and weighs as a book does, "with W as balance": "a lift is to it a transfer onto the scale, a tip moves all its
+-- weight there to d, sets last and leaves accepted"
+abbrev pub terms_weighing : Terms → Weighing
+terms_weighing p = record { checks = λ w. p.checks (of_weigh w); next = λ w. weighed w (motion p (of_weigh w)); forecasts = true }
+
+-- what it is not fed
+abbrev pub no_weighing : Weighing
+no_weighing = record { checks = λ w. []; next = λ w. w; forecasts = false }
+
 -- settings of rules and reports it is not fed
 abbrev pub weighing : Call → Weighing
-weighing (post x) = record { checks = λ w. transfer_checks (of_weigh w) x; next = λ w. weighed w (motion_of x); forecasts = true }
-weighing (lift x) = record { checks = λ w. lift_checks the_scale (of_weigh w) x; next = λ w. weighed w (lift_motion the_scale x); forecasts = true }
-weighing (tip y) = record { checks = λ w. tip_checks the_scale (of_weigh w) y; next = λ w. weighed w (tip_motion the_scale (w.weight the_scale) y); forecasts = true }
-weighing (set_rule s) = record { checks = λ w. []; next = λ w. w; forecasts = false }
-weighing (ask q room) = record { checks = λ w. []; next = λ w. w; forecasts = false }
+weighing (enter p) = terms_weighing (terms p)
+weighing c = no_weighing
 
 -- "The first that applies is its answer, and nothing changes."
 unfoldable pub weigh_number : WeighBook → Call → ℕ

@@ -2,26 +2,25 @@
 -- Definitions only. Assumes nothing.
 use Rattle.std.specs.Prelude.{◌≡◌, ◌≢◌, List, ℕ, Result, Ok, Err}
 use Rattle.refusal.specs.declared.Refusal.{Refusal}
-use Rattle.refusal.specs.Numbers.{Check, first}
+use Rattle.refusal.specs.Numbers.{first}
 use Rattle.refusal.specs.Refusals.{number_of, outcome_number}
 use Rattle.book.specs.declared.Head.{Head}
-use Rattle.book.specs.declared.Motion.{Motion}
 use Rattle.book.specs.declared.Transferred.{Transferred}
 use Rattle.book.specs.declared.Tip.{Tip}
 use Rattle.book.specs.declared.Reply.{Reply}
-use Rattle.book.specs.Motion.{Standing, of_head}
+use Rattle.book.specs.Motion.{of_head, Terms, motion}
 use Rattle.book.specs.Calls.{Call, tip}
 use Rattle.book.specs.Memory.{book_checks, call_on}
 use Rattle.book.specs.Memory as Memory
 use Rattle.carrying.specs.declared.Carried.{Carried}
 use Rattle.carrying.specs.Carrying.{Audited, Carries}
 
--- A posting: its checks after 1 and 4, and the motion that it is on a book with so much weight on its scale.
-module _ (checks : Standing → List Check) (motion : ℕ → Motion) where
+-- A posting.
+module _ (p : Terms) where
   -- On a book known to add up: it is refused by its first check that applies, and nothing is written, or its motion is carried.
   pub record PostsKnown (h : Head) (t t' : List ℕ) (r : Result Carried Refusal) : Type 0 where
-    pub refused : first (checks (of_head h)) ≢ 0 → (outcome_number r ≡ first (checks (of_head h))) × (t' ≡ t)
-    pub carried : first (checks (of_head h)) ≡ 0 → Carries h (motion h.scale) t t' r
+    pub refused : first (p.checks (of_head h)) ≢ 0 → (outcome_number r ≡ first (p.checks (of_head h))) × (t' ≡ t)
+    pub carried : first (p.checks (of_head h)) ≡ 0 → Carries h (motion p (of_head h)) t t' r
 
   -- On any book: 1 and 4 come first.
   pub record PostsAny (h : Head) (t t' : List ℕ) (r : Result Carried Refusal) : Type 0 where

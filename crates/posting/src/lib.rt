@@ -1,13 +1,12 @@
 // Posting to a book: transfer, lift and tip, each by its checks, the pieces moved, and the next head.
 #![tactic(auto)]
 
-ghost use Rattle.std.specs.Prelude.{◌≡◌, ◌≤◌, List, ℕ};
-ghost use Rattle.refusal.specs.Numbers.{Check, first};
+ghost use Rattle.std.specs.Prelude.{◌≡◌, ◌≤◌};
+ghost use Rattle.refusal.specs.Numbers.{first};
 ghost use Rattle.refusal.specs.Refusals.{outcome_number};
-ghost use Rattle.book.specs.declared.Motion.{Motion};
 ghost use Rattle.book.specs.Head.{most_vessels};
-ghost use Rattle.book.specs.Motion.{Standing, of_head};
-ghost use Rattle.book.specs.Calls.{post, lift};
+ghost use Rattle.book.specs.Motion.{of_head, motion};
+ghost use Rattle.book.specs.Calls.{Posting, terms, post, lift};
 ghost use Rattle.carrying.specs.Carrying.{Audited, Carriable};
 ghost use Rattle.posting.specs.Posting.{PostsKnown, PostsAny, transferred, tipped, Posts, Tips};
 
@@ -22,22 +21,19 @@ pub mod transfers; // transfers.rt: the checks of a transfer, and a transfer as 
 
 // What can be posted to a book: its checks after 1 and 4, and the motion that it is.
 trait Posting: Copy {
-    ghost checks: { Self → Standing → List Check };
-
-    // on a book with so much weight on its scale
-    ghost motion: { Self → ℕ → Motion };
+    ghost pour: { Self → Posting };
 
     // The first of its checks that applies. That the head has vessels a book can have is asked here and below it: check 4 has told so of the head that
     // C lends by value, of which a type would have to be made at each call.
     fn check(self, head: Head) -> Result<(), Refusal>
         requires { head.vessels ≤ most_vessels }
-        ensures { outcome_number result ≡ first (checks self (of_head head)) };
+        ensures { outcome_number result ≡ first ((terms (pour self)).checks (of_head head)) };
 
     // Its motion, where no check applies.
     fn motion(self, head: Head) -> Motion
         requires few_vessels { head.vessels ≤ most_vessels }
-        requires passed { first (checks self (of_head head)) ≡ 0 }
-        ensures motion { result ≡ motion self head.scale }
+        requires passed { first ((terms (pour self)).checks (of_head head)) ≡ 0 }
+        ensures motion { result ≡ motion (terms (pour self)) (of_head head) }
         ensures carriable { Carriable head result };
 }
 
@@ -50,7 +46,7 @@ fn post_known<P: Posting>(
     work: &mut Workspace,
 ) -> Result<Carried, Refusal>
     requires { Audited head table.old }
-    ensures { PostsKnown (P.checks p) (P.motion p) head table.old table.new result }
+    ensures { PostsKnown (terms (P.pour p)) head table.old table.new result }
 {
     p.check(head)?;
     carrying::carry(head, table, p.motion(head), work)
@@ -59,7 +55,7 @@ fn post_known<P: Posting>(
 // A posting on any book.
 #[tactic(auto, using(carrying::proofs::Next::audited))]
 fn post<P: Posting>(head: Head, table: &mut [u32], p: P) -> Result<Carried, Refusal>
-    ensures { PostsAny (P.checks p) (P.motion p) head table.old table.new result }
+    ensures { PostsAny (terms (P.pour p)) head table.old table.new result }
 {
     audit::check_book(head, table)?;
     post_known(head, table, p, &mut Workspace::new())

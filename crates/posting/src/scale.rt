@@ -1,6 +1,5 @@
 // Lift and tip as postings.
-ghost use Rattle.book.specs.Head.{the_scale};
-ghost use Rattle.book.specs.Scale.{lift_checks, lift_motion, tip_checks, tip_motion};
+ghost use Rattle.book.specs.Calls.{by_lift, by_tip};
 
 use super::Posting;
 use book::{Head, Lift, Motion, Tip};
@@ -8,9 +7,7 @@ use ledger::balances;
 use refusal::Refusal;
 
 impl Posting for Lift {
-    ghost checks = { λ x g. lift_checks the_scale g x };
-
-    ghost motion = { λ x _. lift_motion the_scale x };
+    ghost pour = { λ x. by_lift x };
 
     #[tactic(auto, unfolding(book::specs::Scale::lift_checks, book::specs::Head::balance_at))]
     fn check(self, head: Head) -> Result<(), Refusal> {
@@ -42,9 +39,7 @@ impl Posting for Lift {
 }
 
 impl Posting for Tip {
-    ghost checks = { λ y g. tip_checks the_scale g y };
-
-    ghost motion = { λ y weight. tip_motion the_scale weight y };
+    ghost pour = { λ y. by_tip y };
 
     #[tactic(auto, unfolding(book::specs::Scale::tip_checks, book::specs::Head::balance_at))]
     fn check(self, head: Head) -> Result<(), Refusal> {

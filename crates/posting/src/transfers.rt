@@ -4,7 +4,8 @@ ghost use Rattle.refusal.specs.Numbers.{first};
 ghost use Rattle.refusal.specs.Refusals.{outcome_number};
 ghost use Rattle.book.specs.Head.{most_vessels};
 ghost use Rattle.book.specs.Motion.{of_head};
-ghost use Rattle.book.specs.Transfer.{transfer_checks, motion_of};
+ghost use Rattle.book.specs.Transfer.{transfer_checks};
+ghost use Rattle.book.specs.Calls.{by_transfer};
 
 use super::Posting;
 use book::{Head, Motion, Transfer};
@@ -43,9 +44,7 @@ pub fn check_transfer(head: &Head, x: Transfer) -> Result<(), Refusal>
 }
 
 impl Posting for Transfer {
-    ghost checks = { λ x g. transfer_checks g x };
-
-    ghost motion = { λ x _. motion_of x };
+    ghost pour = { λ x. by_transfer x };
 
     fn check(self, head: Head) -> Result<(), Refusal> {
         check_transfer(&head, self)

@@ -95,7 +95,7 @@ pub record RunOf (s t : List ℕ) (r : Running) : Type 0 where
   pub folded : Folds 0 0 (opening (rule_of s) (vessels_of s)).head t (transfers_of s) r
   pub demand : Demand3 (rule_of s) (vessels_of s) t (calls_from folded.tried (transfers_of s)) (calls_on (opening (rule_of s) (vessels_of s)).head t (calls_from folded.tried (transfers_of s)))
   -- it never uses rule 4, so that its pieces are counted and its numbers forecast
-  pub unstirred : stirs (opening (rule_of s) (vessels_of s)).head t (calls_from folded.tried (transfers_of s)) ≡ false
+  pub unstirred : stirs (calls_on (opening (rule_of s) (vessels_of s)).head t (calls_from folded.tried (transfers_of s))).log ≡ false
   -- where none is refused the index is M
   pub passed : r.answer.number ≡ 0 → r.answer.index ≡ movements_of s
 
