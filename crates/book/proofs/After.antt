@@ -1,9 +1,9 @@
 -- After a transfer on a book known to add up, the book is known to add up again, and the table is as long as before: so a run of many
 -- transfers makes checks 1 and 4 once.
 -- Assumes nothing.
-use Rattle.std.proofs.Common.{◌≡◌, refl, sym, ◌∙◌, List, ℕ, arith, length}
+use Rattle.std.proofs.Common.{◌≡◌, refl, sym, List, ℕ, arith, length, ◌∙◌}
 use Rattle.table.specs.Pieces.{done}
-use Rattle.table.specs.Table.{places_of, flat}
+use Rattle.table.specs.Table.{flat}
 use Rattle.table.proofs.Pieces.{all_map}
 use Rattle.refusal.specs.Numbers.{first}
 use Rattle.refusal.proofs.Numbers.{first_zero}
@@ -23,38 +23,36 @@ use Rattle.book.proofs.Memory.{On, adds, number_same, in_step}
 use Rattle.book.proofs.Known.{Known, known_up}
 
 -- the head of a sound book whose numbers are of 32 bits has such numbers
-sized_head : (places : ℕ) (b : Book) → SoundBook places b → SizedBook b → Sized (head_of b)
-sized_head places b o z =
+sized_head : (len : ℕ) (b : Book) → SoundBook len b → SizedBook b → Sized (head_of b)
+sized_head len b o z =
     let holders = all_map (λ p f. f.holder_in) o.sound in
     let matches = balances_match b.vessels (head_of b).balances (head_of b).scale b.pieces holders refl refl in
     record { light = λ v. rw (balance_held (head_of b) b.vessels b.pieces o.vessels_fit holders matches v) (z.light v); tally = z.tally }
 
 -- a head and a table that hold such a book are known
-on_known : (places : ℕ) (h : Head) (t : List ℕ) (b : Book) → On places h t b → SoundBook places b → SizedBook b → Known h t
-on_known places h t b on o z = known_up h t (rw on.head_is (sized_head places b o z)) (adds places h t b on o)
+on_known : (len : ℕ) (h : Head) (t : List ℕ) (b : Book) → On len h t b → SoundBook len b → SizedBook b → Known h t
+on_known len h t b on o z = known_up h t (rw on.head_is (sized_head len b o z)) (adds len h t b on o)
 
 -- a transfer leaves numbers of 32 bits
-post_sized : (places : ℕ) (b : Book) (x : Transfer) → SizedBook b → number places b (post x) ≡ 0 → SizedBook ((meaning (post x)).next b)
-post_sized places b x z e =
-    let f = fit (of_book b) x (first_zero _ _ (sym (posted_own (transfer_terms x) (proper (by_transfer x)) places b) ∙ passed_own places b (post x) e)) in
+post_sized : (len : ℕ) (b : Book) (x : Transfer) → SizedBook b → number len b (post x) ≡ 0 → SizedBook ((meaning (post x)).next b)
+post_sized len b x z e =
+    let f = fit (of_book b) x (first_zero _ _ (sym (posted_own (transfer_terms x) (proper (by_transfer x)) len b) ∙ passed_own len b (post x) e)) in
     record { light = motion_light b (motion_of x) z.light f.room; tally = let u = f.tally in omega (arith, z.tally) }
 
 module _ (h : Head) (t : List ℕ) (k : Known h t) (x : Transfer) where
   pub known_after : Known (call_on h t (post x)).head (call_on h t (post x)).table
   known_after =
-      let s = in_step (places_of t) h t (book_of h t) k.on k.sound (post x) in
-      on_known (places_of t) _ _ _ s.holds s.sound (grind (arith, post_sized (places_of t) (book_of h t) x k.light, k.light))
+      let s = in_step (length t) h t (book_of h t) k.on k.sound (post x) in
+      on_known (length t) _ _ _ s.holds s.sound (grind (arith, post_sized (length t) (book_of h t) x k.light, k.light))
 
   pub length_after : length (call_on h t (post x)).table ≡ length t
   unfolding call_on
   length_after =
-      let same = number_same (places_of t) h t (book_of h t) k.on k.sound (post x) in
-      let long = λ (e : number (places_of t) (book_of h t) (post x) ≡ 0). (keeps (places_of t) (book_of h t) (post x) k.sound e).long t k.on.lies in
-      grind (arith, same, long)
+      (in_step (length t) h t (book_of h t) k.on k.sound (post x)).holds.lies.long
 
 -- a fresh book
-pub fresh : (places rule size : ℕ) → first (open_checks rule size) ≡ 0 → SoundBook places (opened rule size)
-fresh places rule size e =
+pub fresh : (len rule size : ℕ) → first (open_checks rule size) ≡ 0 → SoundBook len (opened rule size)
+fresh len rule size e =
     let o = openable rule size e in
     record {
       known = o.rule_known;
@@ -65,10 +63,10 @@ fresh places rule size e =
       sound = done;
     }
 
-pub fresh_on : (rule size : ℕ) (t : List ℕ) → On (places_of t) (empty_head rule size) t (opened rule size)
+pub fresh_on : (rule size : ℕ) (t : List ℕ) → On (length t) (empty_head rule size) t (opened rule size)
 unfolding flat
-fresh_on rule size t = record { head_is = fresh_head rule size; lies = record { tail = t; table_is = refl; places_is = refl } }
+fresh_on rule size t = record { head_is = fresh_head rule size; lies = record { tail = t; table_is = refl; long = refl } }
 
 pub fresh_known : (rule size : ℕ) (t : List ℕ) → first (open_checks rule size) ≡ 0 → Known (empty_head rule size) t
 fresh_known rule size t e =
-    on_known (places_of t) _ t _ (fresh_on rule size t) (fresh (places_of t) rule size e) (record { light = λ v. omega arith; tally = omega arith })
+    on_known (length t) _ t _ (fresh_on rule size t) (fresh (length t) rule size e) (record { light = λ v. omega arith; tally = omega arith })

@@ -5,10 +5,10 @@
 -- under rules 2 and 3, where births no longer follow the order of receipt, on small cases. `one_entry`: births of one vessel at different minutes,
 -- with ages that bring them to the same minute, are one entry of the weigh book.
 -- Assumes nothing.
-use Rattle.std.proofs.Common.{◌≡◌, refl, ◌∙◌, ◌≢◌, List, [], ◌∷◌, map, ℕ, zero, suc, ◌≤◌, ◌<◌, add-one, arith, lt-ltb, le-ltb}
+use Rattle.std.proofs.Common.{◌≡◌, refl, ◌≢◌, List, [], ◌∷◌, map, ℕ, zero, suc, ◌≤◌, ◌<◌, add-one, arith, lt-ltb, le-ltb, length, ◌∙◌}
 use Rattle.std.proofs.lemmas.Bool.Decides.{nat_tests}
 use native.Mathlib.Nat.{sub-zero}
-use Rattle.table.specs.Table.{pieces_of, flat, places_of}
+use Rattle.table.specs.Table.{pieces_of, flat, places_in}
 use Rattle.taking.specs.Selection.{precedes}
 use Rattle.taking.specs.Taking.{take_up_to, taken}
 use Rattle.refusal.specs.Numbers.{first}
@@ -31,7 +31,7 @@ use Rattle.book.proofs.Cases.{Case, worked, seen, pieces}
 
 module _ (h : Head) (t : List ℕ) (s d m q : ℕ) (z : h.scale ≡ 0) (unset : h.rules ≡ given_rules h.rule h.vessels)
     (counted : h.pieces ≤ h.accepted) where
-  own_number : first ((one_rule (post (unaged s d m q))).checks (places_of t) (book_of h t)) ≡ first ((former_meaning s d m q).checks (places_of t) (book_of h t))
+  own_number : first ((one_rule (post (unaged s d m q))).checks (length t) (book_of h t)) ≡ first ((former_meaning s d m q).checks (length t) (book_of h t))
   unfolding transfer_checks
   own_number = rw (le-ltb m 0 (omega arith), sub-zero)
 
@@ -41,7 +41,7 @@ module _ (h : Head) (t : List ℕ) (s d m q : ℕ) (z : h.scale ≡ 0) (unset : 
 
   same_number : one_rule_number h t (post (unaged s d m q)) ≡ former_number h t s d m q
   same_number =
-      let former = first_append (former_book_checks h t) ((former_meaning s d m q).checks (places_of t) (book_of h t)) tt in
+      let former = first_append (former_book_checks h t) ((former_meaning s d m q).checks (length t) (book_of h t)) tt in
       grind (arith, former_split h t unset counted (post (unaged s d m q)), own_number, same_checks, former)
 
   pub age_zero : call_on h t (post (unaged s d m q)) ≡ former_on h t s d m q
@@ -80,7 +80,7 @@ cases =
     ∷ []
 
 pub aged : map seen cases ≡ map (λ c. c.wanted) cases
-unfolding cases calls_on call_on number_of book_checks adds_up rules_fit all_zero every same balances_of tab places_of pieces_of flat opening transfer_checks takes taken take_up_to precedes
+unfolding cases calls_on call_on number_of book_checks adds_up rules_fit all_zero every same balances_of tab places_in pieces_of flat opening transfer_checks takes taken take_up_to precedes
 aged = refl
 
 pub one_entry : (feed (blank 2) (map post (transfer_of 0 1 5 2 1 ∷ transfer_of 0 1 6 3 2 ∷ []))).births 0 4 ≡ 5

@@ -4,7 +4,7 @@
 -- used, which can ask for any number of places: a transfer that finds none is refused.
 -- The idea: the weigh book gives both, and it knows neither a rule nor a setting.
 -- Assumes nothing.
-use Rattle.std.proofs.Common.{◌≡◌, refl, sym, ap, ◌∙◌, false, List, [], ◌∷◌, ℕ, ◌≤◌, length}
+use Rattle.std.proofs.Common.{◌≡◌, refl, sym, ap, false, List, [], ◌∷◌, ℕ, ◌≤◌, length, ◌∙◌}
 use Rattle.table.specs.Pieces.{sum, born_at, held}
 use Rattle.table.specs.Table.{places_of}
 use Rattle.book.specs.Head.{book_of, opening}

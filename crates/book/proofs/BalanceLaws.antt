@@ -1,7 +1,7 @@
 -- Laws of the balances: when a list of 65 numbers, the scale's last, is the balances of some pieces, and what it becomes when weight goes
 -- from one holder to another.
 -- Assumes nothing.
-use Rattle.std.proofs.Common.{◌≡◌, refl, sym, ap, ◌∙◌, ◌≢◌, true, false, cond, List, [], ◌∷◌, ◌++◌, ℕ, zero, suc, ◌+◌, ◌-◌, ◌≤◌, ◌<◌, not-suc-le-zero, le_of_suc-le-suc, zero-add, add-zero, suc-add, arith, w32, Fits, eqb, length, get_or, length-append, replicate, ext_get_or}
+use Rattle.std.proofs.Common.{◌≡◌, refl, sym, ap, ◌≢◌, true, false, cond, List, [], ◌∷◌, ◌++◌, ℕ, zero, suc, ◌+◌, ◌-◌, ◌≤◌, ◌<◌, not-suc-le-zero, le_of_suc-le-suc, zero-add, add-zero, suc-add, arith, w32, Fits, eqb, length, get_or, length-append, replicate, ext_get_or, ◌∙◌}
 use lib.ListN.{get_or-eq_default, get_or-append}
 use lib.Seq.{get_or_at}
 use Rattle.std.proofs.lemmas.Bool.{cases_lt}

@@ -4,7 +4,7 @@
 -- Assumes nothing.
 use Rattle.std.proofs.Common.{◌≡◌, refl, false, cond, List, [], ◌∷◌, ◌++◌, map, ℕ, ◌≤◌, ◌<◌, ◌-◌, arith, eqb, length, replicate}
 use Rattle.std.proofs.lemmas.Bool.Decides.{nat_tests}
-use Rattle.table.specs.Table.{most_places, pieces_of, places_of}
+use Rattle.table.specs.Table.{most_places, pieces_of, places_in}
 use Rattle.refusal.specs.Numbers.{TOP, first}
 use Rattle.book.specs.declared.Head.{Head}
 use Rattle.book.specs.declared.Report.{Report}
@@ -222,12 +222,12 @@ edges =
     ∷ []
 
 pub at_the_edge : map (λ e. e.found) edges ≡ map (λ e. e.wanted) edges
-unfolding edges opening book_checks adds_up rules_fit all_zero every same balances_of tab places_of pieces_of transfer_checks lift_checks tip_checks setting_checks report_checks
+unfolding edges opening book_checks adds_up rules_fit all_zero every same balances_of tab places_in pieces_of transfer_checks lift_checks tip_checks setting_checks report_checks
 at_the_edge = refl
 
 -- The number of a report on the fresh book of three vessels is that of its own checks.
 pub fresh_report : (q : Report) (room : List ℕ) → number_of (empty_head 0 3) (9 ∷ 9 ∷ 9 ∷ 9 ∷ []) (ask q room) ≡ report q (length room)
-unfolding number_of book_checks adds_up rules_fit all_zero every same balances_of tab places_of pieces_of
+unfolding number_of book_checks adds_up rules_fit all_zero every same balances_of tab places_in pieces_of
 fresh_report q room = refl
 
 -- However far off the vessel of a held report or the origin of a spread one is, it is 5, and before all else.
@@ -248,5 +248,5 @@ zeros rule size nz = grind arith
 
 -- More pieces than a table ever counts places: no computed case reaches it.
 pub too_many : (h : Head) (t : List ℕ) → most_places < h.pieces → adds_up h t ≡ false
-unfolding adds_up places_of
+unfolding adds_up places_in
 too_many h t e = grind (arith, nat_tests)

@@ -3,11 +3,11 @@
 -- scale, in the order they lay, behind them; a setting changes one number of the head, and the picks from one vessel. And a report: its numbers are
 -- written, and the numbers after these remain. What is refused gives zeros, the head as it was, and changes nothing.
 -- Assumes nothing.
-use Rattle.std.proofs.Common.{◌≡◌, refl, sym, ap, ◌∙◌, ◌≢◌, not, List, [], ◌∷◌, ◌++◌, map, append-nil, ℕ, arith, leb, ltb, length, take, drop, take_at, drop_at}
+use Rattle.std.proofs.Common.{◌≡◌, refl, sym, ap, ◌≢◌, not, List, [], ◌∷◌, ◌++◌, map, append-nil, ℕ, arith, leb, ltb, length, take, drop, take_at, drop_at, ◌∙◌}
 use Rattle.std.proofs.lemmas.Bool.Decides.{nat_tests}
 use Rattle.table.specs.declared.Piece.{Piece}
 use Rattle.table.specs.Pieces.{hand_to}
-use Rattle.table.specs.Table.{pieces_of, places_of, lay}
+use Rattle.table.specs.Table.{pieces_of, lay}
 use Rattle.table.proofs.Pieces.{all_map}
 use Rattle.taking.specs.Stirring.{stirred_rule}
 use Rattle.taking.specs.InTable.{Moved, in_table}
@@ -43,7 +43,7 @@ module _ (h : Head) (t : List ℕ) where
   ps = pieces_of h.pieces t
 
   -- a call that is answered 0 has passed its own checks, on a book that adds up
-  pub passed_own : (c : Call) → number_of h t c ≡ 0 → first ((meaning c).checks (places_of t) (book_of h t)) ≡ 0
+  pub passed_own : (c : Call) → number_of h t c ≡ 0 → first ((meaning c).checks (length t) (book_of h t)) ≡ 0
   passed_own c e = sym (on_number h t c _ refl (passed_book h t c e)) ∙ e
 
   pub accepted_book : (c : Call) → number_of h t c ≡ 0 → AddsUp h t
@@ -93,7 +93,7 @@ module _ (h : Head) (t : List ℕ) where
   report_in_words q room z = let e = sym (call_number h t (ask q room)) ∙ z in rw e (take_at (report_row h.vessels ps q) _ _ refl, drop_at (report_row h.vessels ps q) _ _ refl)
 
   -- "A refusal returns its number with all other answer numbers 0 and the head as given; no lent memory changes", the room of a report neither.
-  pub refused_in_words : (c : Call) → ((call_on h t c).number ≡ 0 → ⊥) → ((call_on h t c).answer ≡ ((meaning c).refused (call_on h t c).number (places_of t) (book_of h t)).answer) × ((call_on h t c).head ≡ h) × ((call_on h t c).table ≡ t)
+  pub refused_in_words : (c : Call) → ((call_on h t c).number ≡ 0 → ⊥) → ((call_on h t c).answer ≡ ((meaning c).refused (call_on h t c).number (length t) (book_of h t)).answer) × ((call_on h t c).head ≡ h) × ((call_on h t c).table ≡ t)
   refused_in_words c nz = rw (refused_on h t c _ (sym (call_number h t c)) nz) (refl, refl, refl)
 
   pub report_refused : (q : Report) (room : List ℕ) → ((call_on h t (ask q room)).number ≡ 0 → ⊥) → (call_on h t (ask q room)).room ≡ room

@@ -1,7 +1,7 @@
 -- A head and a table that add up, as one record, and what follows of those whose numbers are of 32 bits: the book that they hold is sound,
 -- and what the code reads off the head is what the pieces say. They are made here, and nowhere else are the tests taken apart.
 -- Assumes nothing.
-use Rattle.std.proofs.Common.{arith, ◌≡◌, refl, sym, ◌∙◌, true, List, ℕ, ◌*◌, ◌≤◌, length, drop}
+use Rattle.std.proofs.Common.{arith, ◌≡◌, refl, sym, true, List, ℕ, ◌*◌, ◌≤◌, length, drop, ◌∙◌}
 use Rattle.std.proofs.lemmas.Bool.Decides.{nat_tests}
 use Rattle.table.specs.declared.Piece.{Piece}
 use Rattle.table.specs.Pieces.{held, All}
@@ -55,19 +55,19 @@ module _ (h : Head) (t : List ℕ) (u : AddsUp h t) where
   adds_room : 4 * h.pieces ≤ length t
   adds_room = places_fit t h.pieces (places_of t) refl u.few
 
-  pub adds_sound : SoundBook (places_of t) (book_of h t)
+  pub adds_sound : SoundBook (length t) (book_of h t)
   adds_sound = grind (arith, length_pieces h.pieces t)
 
-  pub adds_on : On (places_of t) h t (book_of h t)
-  adds_on = record { head_is = adds_head h t u; lies = record { tail = drop (4 * h.pieces) t; table_is = formed h.pieces t adds_room; places_is = refl } }
+  pub adds_on : On (length t) h t (book_of h t)
+  adds_on = record { head_is = adds_head h t u; lies = record { tail = drop (4 * h.pieces) t; table_is = formed h.pieces t adds_room; long = refl } }
 
 -- A book in memory that adds up, with numbers of 32 bits.
 pub record Known (h : Head) (t : List ℕ) : Type 0 where
   pub adds : adds_up h t ≡ true
   pub sized : Sized h
-  pub sound : SoundBook (places_of t) (book_of h t)
+  pub sound : SoundBook (length t) (book_of h t)
   pub light : SizedBook (book_of h t)
-  pub on : On (places_of t) h t (book_of h t)
+  pub on : On (length t) h t (book_of h t)
   pub few : h.pieces ≤ places_of t
   pub there : 4 * h.pieces ≤ length t
   pub matches : Matches (holdings h) (pieces_of h.pieces t)

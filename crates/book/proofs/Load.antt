@@ -4,11 +4,11 @@
 -- `tip_comes_last`. "Pieces on it are in no vessel, and no vessel's report includes them": `report_unloaded`. Nor does it play a part in a transfer:
 -- `load_apart`. All that on small cases: `tip_behind`, `left_out`, `waited`.
 -- Assumes nothing.
-use Rattle.std.proofs.Common.{◌≡◌, refl, sym, ap, ◌∙◌, ◌≢◌, List, [], ◌∷◌, ◌++◌, map, ℕ, ◌+◌, ne_eqb, zero, suc, ◌<◌, arith, length, take, replicate}
+use Rattle.std.proofs.Common.{◌≡◌, refl, sym, ap, ◌≢◌, List, [], ◌∷◌, ◌++◌, map, ℕ, ◌+◌, ne_eqb, zero, suc, ◌<◌, arith, length, take, replicate, ◌∙◌}
 use Rattle.std.proofs.lemmas.Bool.Decides.{nat_tests}
 use Rattle.table.specs.declared.Piece.{Piece}
 use Rattle.table.specs.Pieces.{in_vessel, hand_to}
-use Rattle.table.specs.Table.{pieces_of, flat, places_of, lay}
+use Rattle.table.specs.Table.{pieces_of, flat, lay, places_in}
 use Rattle.taking.specs.Selection.{precedes}
 use Rattle.taking.specs.Taking.{take_up_to, taken}
 use Rattle.taking.specs.Sweeping.{held_by, elsewhere}
@@ -50,9 +50,9 @@ module _ (h : Head) (t : List ℕ) where
   left_book : (c : Call) → number_of h t c ≡ 0 → book_of (call_on h t c).head (call_on h t c).table ≡ (meaning c).next (book_of h t)
   left_book c e =
       let a = accepted_book h t c e in
-      let s = in_step (places_of t) h t (book_of h t) (adds_on h t a) (adds_sound h t a) c in
-      let z = sym (number_same (places_of t) h t (book_of h t) (adds_on h t a) (adds_sound h t a) c) ∙ e in
-      rw z at (back (places_of t) _ _ _ s.holds s.sound)
+      let s = in_step (length t) h t (book_of h t) (adds_on h t a) (adds_sound h t a) c in
+      let z = sym (number_same (length t) h t (book_of h t) (adds_on h t a) (adds_sound h t a) c) ∙ e in
+      rw z at (back (length t) _ _ _ s.holds s.sound)
 
   -- "22 is left for lift alone"
   pub loaded_refuses : 0 < h.scale → first (book_checks h t) ≡ 0 → (x : Lift) → number_of h t (lift x) ≡ 22
@@ -71,7 +71,7 @@ module _ (h : Head) (t : List ℕ) where
     outside v u e =
         let p = terms v in
         let a = accepted_book h t (enter v) e in
-        let own = first_zero _ _ (sym (posted_own p (proper v) (places_of t) (book_of h t)) ∙ passed_own h t (enter v) e) in
+        let own = first_zero _ _ (sym (posted_own p (proper v) (length t) (book_of h t)) ∙ passed_own h t (enter v) e) in
         let f = (proper v).fits (of_book (book_of h t)) own in
         let i : p.source < h.vessels = f.from_vessel (omega arith) in
         let few = a.vessels_fit in
@@ -183,7 +183,7 @@ abbrev behind : List ℕ
 behind = 1 ∷ 2 ∷ 1 ∷ 5 ∷ 0 ∷ 1 ∷ 2 ∷ 3 ∷ 1 ∷ 0 ∷ 5 ∷ 2 ∷ 1 ∷ 2 ∷ 3 ∷ 4 ∷ 7 ∷ 7 ∷ 0 ∷ 9 ∷ 9 ∷ 3 ∷ 11 ∷ []
 
 pub tip_behind : map tipped_into_1 (0 ∷ 1 ∷ 2 ∷ 3 ∷ []) ≡ behind ∷ behind ∷ behind ∷ behind ∷ []
-unfolding call_on number_of book_checks adds_up rules_fit all_zero every same balances_of tab places_of pieces_of flat tip_checks takes taken take_up_to precedes
+unfolding call_on number_of book_checks adds_up rules_fit all_zero every same balances_of tab places_in pieces_of flat tip_checks takes taken take_up_to precedes
 tip_behind = refl
 
 -- The same book's reports, and the number behind them.
@@ -199,7 +199,7 @@ all_vessels = record { rule = 0; vessels = 64; pieces = 1; last = 5; accepted = 
 
 pub left_out : (map reported (Held 0 ∷ Spread 2 0 9 ∷ Whole ∷ []) ≡ vessels_only)
     × ((call_on all_vessels (64 ∷ 63 ∷ 5 ∷ 7 ∷ []) (ask (Spread 63 0 9) (replicate 65 7))).room ≡ replicate 64 0 ++ (7 ∷ []))
-unfolding call_on number_of book_checks adds_up rules_fit all_zero every same balances_of tab places_of pieces_of flat report_checks rows
+unfolding call_on number_of book_checks adds_up rules_fit all_zero every same balances_of tab places_in pieces_of flat report_checks rows
 left_out = (refl, refl)
 
 -- What waits on the scale: part of two lots of vessel 0, which gives and receives meanwhile, gets it back behind what it received, and gives by that.
@@ -230,5 +230,5 @@ cases =
     ∷ []
 
 pub waited : map seen cases ≡ map (λ c. c.wanted) cases
-unfolding cases calls_on call_on number_of book_checks adds_up rules_fit all_zero every same balances_of tab places_of pieces_of flat opening transfer_checks lift_checks tip_checks takes taken take_up_to precedes report_checks rows
+unfolding cases calls_on call_on number_of book_checks adds_up rules_fit all_zero every same balances_of tab places_in pieces_of flat opening transfer_checks lift_checks tip_checks takes taken take_up_to precedes report_checks rows
 waited = refl

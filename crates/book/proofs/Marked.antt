@@ -3,7 +3,7 @@
 -- Assumes nothing.
 use Rattle.std.proofs.Common.{◌≡◌, refl, List, [], ◌∷◌, ◌++◌, map, ℕ, take}
 use Rattle.table.specs.Pieces.{held}
-use Rattle.table.specs.Table.{pieces_of, flat, places_of}
+use Rattle.table.specs.Table.{pieces_of, flat, places_in}
 use Rattle.taking.specs.Selection.{precedes}
 use Rattle.taking.specs.Taking.{take_up_to, taken}
 use Rattle.book.specs.declared.Transfer.{Transfer}
@@ -90,7 +90,7 @@ marked =
     ∷ []
 
 pub marked_cases : map (λ c. seen c.is) marked ≡ map (λ c. c.is.wanted) marked
-unfolding marked calls_on call_on number_of book_checks adds_up rules_fit all_zero every same balances_of tab places_of pieces_of flat opening transfer_checks takes taken take_up_to precedes feed weigh_number
+unfolding marked calls_on call_on number_of book_checks adds_up rules_fit all_zero every same balances_of tab places_in pieces_of flat opening transfer_checks takes taken take_up_to precedes feed weigh_number
 marked_cases = refl
 
 -- K8: "q = balance of s, above 0, accepted: even under every rule", of every book.

@@ -4,7 +4,7 @@
 -- its destination or of the book.
 -- Assumes nothing.
 use Rattle.std.proofs.Common.{◌≡◌, refl, List, [], ◌∷◌, ◌++◌, map, ℕ, take}
-use Rattle.table.specs.Table.{pieces_of, flat, places_of}
+use Rattle.table.specs.Table.{pieces_of, flat, places_in}
 use Rattle.taking.specs.Selection.{precedes}
 use Rattle.taking.specs.Taking.{take_up_to, taken}
 use Rattle.refusal.specs.Numbers.{TOP}
@@ -69,5 +69,5 @@ cases =
     ∷ []
 
 pub mixed : map seen cases ≡ map (λ c. c.wanted) cases
-unfolding cases calls_on call_on number_of book_checks adds_up rules_fit all_zero every same balances_of tab places_of pieces_of flat opening transfer_checks lift_checks tip_checks setting_checks takes taken take_up_to precedes
+unfolding cases calls_on call_on number_of book_checks adds_up rules_fit all_zero every same balances_of tab places_in pieces_of flat opening transfer_checks lift_checks tip_checks setting_checks takes taken take_up_to precedes
 mixed = refl

@@ -4,9 +4,8 @@
 -- The idea: what is picked differs only where the source is no vessel of the book, and there 5 comes first; and the four first rules give at most one piece
 -- more for each transfer.
 -- Assumes nothing.
-use Rattle.std.proofs.Common.{◌≡◌, refl, sym, ap, ◌∙◌, Bool, true, false, cond, List, [], ◌∷◌, ℕ, zero, suc, ◌≤◌, ◌<◌, arith, T, ltb, length}
+use Rattle.std.proofs.Common.{◌≡◌, refl, sym, ap, Bool, true, false, cond, List, [], ◌∷◌, ℕ, zero, suc, ◌≤◌, ◌<◌, arith, T, ltb, length, ◌∙◌}
 use Rattle.std.proofs.lemmas.Bool.Decides.{nat_tests}
-use Rattle.table.specs.Table.{places_of}
 use Rattle.table.proofs.Table.{length_pieces}
 use Rattle.taking.proofs.Stirring.{taken_singly}
 use Rattle.refusal.specs.Numbers.{first, if_zero}
@@ -25,6 +24,7 @@ use Rattle.book.proofs.Memory.{number_split, number_same, passed_book, book_pass
 use Rattle.book.proofs.Sound.{number, proper, keeps, count_kept}
 use Rattle.book.proofs.Known.{AddsUp, adds_up_told, adds_sound, adds_on}
 use Rattle.book.proofs.Unstirred.{asks_none}
+use Rattle.table.specs.Table.{places_of}
 
 module _ (h : Head) (t : List ℕ) (unset : h.rules ≡ given_rules h.rule h.vessels) (counted : h.pieces ≤ h.accepted) where
   abbrev b : Book
@@ -39,14 +39,14 @@ module _ (h : Head) (t : List ℕ) (unset : h.rules ≡ given_rules h.rule h.ves
   same_taken m a inside =
       rw (unset, given_at h.rule h.vessels m.moves.source a.vessels_fit inside) (taken_singly h.rule m.moves b.pieces (λ e. omega (arith, a.rule_known)))
 
-  pub former_split : (c : Call) → one_rule_number h t c ≡ if_zero (first (one_rule_checks h t)) (first ((one_rule c).checks (places_of t) b)) (first (one_rule_checks h t))
+  pub former_split : (c : Call) → one_rule_number h t c ≡ if_zero (first (one_rule_checks h t)) (first ((one_rule c).checks (length t) b)) (first (one_rule_checks h t))
   unfolding one_rule_number one_rule_checks
-  former_split c = first_append (one_rule_checks h t) ((one_rule c).checks (places_of t) b) tt
+  former_split c = first_append (one_rule_checks h t) ((one_rule c).checks (length t) b) tt
 
   -- A call is as before if, on a book that adds up, its own checks are, and what it leaves where none applies; and it tells the same where it is refused.
-  module _ (c : Call) (same_checks : AddsUp h t → first ((meaning c).checks (places_of t) b) ≡ first ((one_rule c).checks (places_of t) b))
+  module _ (c : Call) (same_checks : AddsUp h t → first ((meaning c).checks (length t) b) ≡ first ((one_rule c).checks (length t) b))
       (same_refused : (meaning c).refused ≡ (one_rule c).refused)
-      (same_left : AddsUp h t → first ((meaning c).checks (places_of t) b) ≡ 0 → outcome h t (meaning c) 0 ≡ outcome h t (one_rule c) 0) where
+      (same_left : AddsUp h t → first ((meaning c).checks (length t) b) ≡ 0 → outcome h t (meaning c) 0 ≡ outcome h t (one_rule c) 0) where
     sums : first (book_checks h t) ≡ 0 → AddsUp h t
     sums e = adds_up_told h t (book_passed h t e).1
 
@@ -75,11 +75,11 @@ module _ (h : Head) (t : List ℕ) (unset : h.rules ≡ given_rules h.rule h.ves
     abbrev m : Motion
     m = motion_on p b
 
-    one : first ((posting_meaning p).checks (places_of t) b)
+    one : first ((posting_meaning p).checks (length t) b)
         ≡ if_zero (first (p.checks (of_book b))) (first (place_checks p.counts (places_of t) (pieces_after b m))) (first (p.checks (of_book b)))
     one = first_append (p.checks (of_book b)) _ ((proper u).named (of_book b))
 
-    other : first ((former_posting p).checks (places_of t) b)
+    other : first ((former_posting p).checks (length t) b)
         ≡ if_zero (first (p.checks (of_book b))) (first (place_checks p.counts (places_of t) (former_pieces b m.moves))) (first (p.checks (of_book b)))
     other = first_append (p.checks (of_book b)) _ ((proper u).named (of_book b))
 
@@ -94,7 +94,7 @@ module _ (h : Head) (t : List ℕ) (unset : h.rules ≡ given_rules h.rule h.ves
   as_before (enter v) u = go (terms v).counts refl
     where
       go : (n : ℕ) → (terms v).counts ≡ n → call_on h t (enter v) ≡ one_rule_on h t (enter v)
-      go zero z = let same : one_rule (enter v) ≡ meaning (enter v) = rw z refl in as_ever (enter v) (λ a. ap (λ (x : Meaning). first (x.checks (places_of t) b)) (sym same)) (ap (λ (x : Meaning). x.refused) (sym same)) (λ a e. ap (λ (x : Meaning). outcome h t x 0) (sym same))
+      go zero z = let same : one_rule (enter v) ≡ meaning (enter v) = rw z refl in as_ever (enter v) (λ a. ap (λ (x : Meaning). first (x.checks (length t) b)) (sym same)) (ap (λ (x : Meaning). x.refused) (sym same)) (λ a e. ap (λ (x : Meaning). outcome h t x 0) (sym same))
       go (suc n) z = posted_as_before v (omega arith)
   as_before (set_rule s) u = cc
   as_before c u = as_ever c (λ a. refl) refl (λ a e. refl)
@@ -112,10 +112,10 @@ module _ (h : Head) (t : List ℕ) (unset : h.rules ≡ given_rules h.rule h.ves
       go (suc n) e = counted
       go zero e =
           let a = adds_up_told h t (book_passed h t (passed_book h t c e)).1 in
-          let known = number_same (places_of t) h t b (adds_on h t a) (adds_sound h t a) c in
+          let known = number_same (length t) h t b (adds_on h t a) (adds_sound h t a) c in
           let none = asks_none h.rules (rw unset (given_unstirred h.rule h.vessels a.rule_known a.vessels_fit)) c in
-          let z : number (places_of t) b c ≡ 0 = sym known ∙ e in
-          omega (arith, counted, length_pieces h.pieces t, count_kept (places_of t) b c none, (keeps (places_of t) b c (adds_sound h t a) z).tally)
+          let z : number (length t) b c ≡ 0 = sym known ∙ e in
+          omega (arith, counted, length_pieces h.pieces t, count_kept (length t) b c none, (keeps (length t) b c (adds_sound h t a) z).tally)
 
 abbrev AsBefore : List Call → Type 0
 AsBefore cs = (h : Head) (t : List ℕ) → h.rules ≡ given_rules h.rule h.vessels → h.pieces ≤ h.accepted → calls_on h t cs ≡ one_rule_calls h t cs

@@ -3,10 +3,10 @@
 -- book, in document 02's words. `divided`: the six movements, each as a lift and a tip, leave K1 to K4's pieces, and what else lifts and tips
 -- leave, on small cases.
 -- Assumes nothing.
-use Rattle.std.proofs.Common.{◌≡◌, refl, ◌∙◌, ◌≢◌, List, [], ◌∷◌, map, ℕ, ◌+◌, arith, eqb}
+use Rattle.std.proofs.Common.{◌≡◌, refl, ◌≢◌, List, [], ◌∷◌, map, ℕ, ◌+◌, arith, eqb, ◌∙◌}
 use Rattle.std.proofs.lemmas.Bool.Decides.{nat_tests}
 use Rattle.table.specs.Pieces.{only}
-use Rattle.table.specs.Table.{pieces_of, flat, places_of}
+use Rattle.table.specs.Table.{pieces_of, flat, places_in}
 use Rattle.taking.specs.Selection.{precedes}
 use Rattle.taking.specs.Taking.{take_up_to, taken}
 use Rattle.refusal.specs.Numbers.{first}
@@ -75,5 +75,5 @@ cases =
     ∷ []
 
 pub divided : map seen cases ≡ map (λ c. c.wanted) cases
-unfolding cases calls_on call_on number_of book_checks adds_up rules_fit all_zero every same balances_of tab places_of pieces_of flat opening transfer_checks lift_checks tip_checks takes taken take_up_to precedes
+unfolding cases calls_on call_on number_of book_checks adds_up rules_fit all_zero every same balances_of tab places_in pieces_of flat opening transfer_checks lift_checks tip_checks takes taken take_up_to precedes
 divided = refl

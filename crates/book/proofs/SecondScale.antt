@@ -5,11 +5,11 @@
 -- The idea: the same pieces are picked, by the source's rule, whoever they are handed to. What was lifted lies last, in picked order, and nothing else is
 -- on that scale, which has no rule. So the tip sweeps just that, and hands it on as if it had been handed there at once.
 -- Assumes nothing.
-use Rattle.std.proofs.Common.{◌≡◌, refl, sym, ap, ◌∙◌, ◌≢◌, List, [], ◌∷◌, ◌++◌, ℕ, ◌+◌, ◌*◌, ◌≤◌, ◌<◌, add-zero, arith, T, leb, ltb, length, drop, drop_at}
+use Rattle.std.proofs.Common.{◌≡◌, refl, sym, ap, ◌≢◌, List, [], ◌∷◌, ◌++◌, ℕ, ◌+◌, ◌*◌, ◌≤◌, ◌<◌, add-zero, arith, T, leb, ltb, length, drop, drop_at, ◌∙◌}
 use Rattle.std.proofs.lemmas.Bool.Decides.{nat_tests}
 use Rattle.table.specs.declared.Piece.{Piece}
 use Rattle.table.specs.Pieces.{held, All}
-use Rattle.table.specs.Table.{flat, lay}
+use Rattle.table.specs.Table.{flat, lay, places_in}
 use Rattle.table.proofs.Pieces.{all_map}
 use Rattle.table.proofs.Table.{length_flat, quad_is}
 use Rattle.taking.specs.Taking.{taken, handed}
@@ -33,10 +33,10 @@ lay_again ps qs t e =
     let k : length (flat ps) ≡ 4 * length qs = length_flat ps ∙ rw e (sym (quad_is (length ps))) in
     ap (λ (l : List ℕ). flat qs ++ l) (drop_at (flat ps) (drop (4 * length ps) t) (4 * length qs) k ∙ rw e)
 
-accepted_own : (places n : ℕ) (cs : List Check) → T (named cs) → first (cs ++ (11 if ltb places n ∷ [])) ≡ 0 → (first cs ≡ 0) × (n ≤ places)
-accepted_own places n cs ok e = let a = first_append cs (11 if ltb places n ∷ []) ok in grind (arith, nat_tests)
+accepted_own : (len n : ℕ) (cs : List Check) → T (named cs) → first (cs ++ (11 if ltb (places_in len) n ∷ [])) ≡ 0 → (first cs ≡ 0) × (n ≤ places_in len)
+accepted_own len n cs ok e = let a = first_append cs (11 if ltb (places_in len) n ∷ []) ok in grind (arith, nat_tests)
 
-module _ (scale places : ℕ) (b : Book) (x : Transfer) where
+module _ (scale len : ℕ) (b : Book) (x : Transfer) where
   -- the transfer, its lift onto that scale, and its tip; and the book between these two
   abbrev pub whole : Meaning
   whole = meaning (post x)
@@ -53,16 +53,16 @@ module _ (scale places : ℕ) (b : Book) (x : Transfer) where
   -- What they have in common.
   pub record Divides : Type 0 where
     -- an accepted transfer leaves what they leave, and says what the lift says
-    pub both_pass : own places b whole ≡ 0 → (own places b up ≡ 0) × (own places lifted down ≡ 0)
-    pub same_book : own places b whole ≡ 0 → down.next lifted ≡ whole.next b
-    pub same_table : own places b whole ≡ 0 → (t : List ℕ) → down.table lifted (up.table b t) ≡ whole.table b t
+    pub both_pass : own len b whole ≡ 0 → (own len b up ≡ 0) × (own len lifted down ≡ 0)
+    pub same_book : own len b whole ≡ 0 → down.next lifted ≡ whole.next b
+    pub same_table : own len b whole ≡ 0 → (t : List ℕ) → down.table lifted (up.table b t) ≡ whole.table b t
     pub same_answer : ((up.told b).answer ≡ (whole.told b).answer) × (up.even b ≡ whole.even b)
     -- where the lift is accepted, the transfer has the tip's number, or 6 where it goes back to its source
-    pub tip_decides : own places b up ≡ 0 → x.source ≢ x.destination → own places b whole ≡ own places lifted down
-    pub same_vessel : own places b up ≡ 0 → x.source ≡ x.destination → own places b whole ≡ 6
+    pub tip_decides : own len b up ≡ 0 → x.source ≢ x.destination → own len b whole ≡ own len lifted down
+    pub same_vessel : own len b up ≡ 0 → x.source ≡ x.destination → own len b whole ≡ 6
     -- where the lift is refused, so is the transfer; and with the same number, if nothing is amiss with the destination
-    pub lift_decides : own places b up ≢ 0 → own places b whole ≢ 0
-    pub lift_number : x.destination < b.vessels → x.source ≢ x.destination → held x.destination b.pieces + x.weight ≤ TOP → own places b whole ≡ own places b up
+    pub lift_decides : own len b up ≢ 0 → own len b whole ≢ 0
+    pub lift_number : x.destination < b.vessels → x.source ≢ x.destination → held x.destination b.pieces + x.weight ≤ TOP → own len b whole ≡ own len b up
 
   tip_length : (k : Book) → length (pieces_after k (motion_on (tip_terms scale (tip_part x)) k)) ≡ length k.pieces
   tip_length k = let m = motion_on (tip_terms scale (tip_part x)) k in omega (arith, after_length k m, all_taken k m refl)
@@ -79,13 +79,13 @@ module _ (scale places : ℕ) (b : Book) (x : Transfer) where
   same_said = rw same_taken (refl, refl)
 
   -- what a transfer and a lift pass where they are accepted
-  post_passed : own places b whole ≡ 0 → (first (transfer_checks (of_book b) x) ≡ 0) × (length (pieces_after b (motion_of x)) ≤ places)
+  post_passed : own len b whole ≡ 0 → (first (transfer_checks (of_book b) x) ≡ 0) × (length (pieces_after b (motion_of x)) ≤ places_in len)
   unfolding transfer_checks
-  post_passed e = accepted_own places (length (pieces_after b (motion_of x))) (transfer_checks (of_book b) x) tt e
+  post_passed e = accepted_own len (length (pieces_after b (motion_of x))) (transfer_checks (of_book b) x) tt e
 
-  lift_passed : own places b up ≡ 0 → (first (lift_checks scale (of_book b) (lift_part x)) ≡ 0) × (length lifted.pieces ≤ places)
+  lift_passed : own len b up ≡ 0 → (first (lift_checks scale (of_book b) (lift_part x)) ≡ 0) × (length lifted.pieces ≤ places_in len)
   unfolding lift_checks
-  lift_passed e = accepted_own places (length lifted.pieces) (lift_checks scale (of_book b) (lift_part x)) tt e
+  lift_passed e = accepted_own len (length lifted.pieces) (lift_checks scale (of_book b) (lift_part x)) tt e
 
   module _ (weighty : All (λ p. 1 ≤ p.weight) b.pieces) (beyond : b.vessels ≤ scale) (bare : held scale b.pieces ≡ 0) (ruleless : rule_at b.rules scale ≡ as_they_lie) where
     -- where the lift passes its checks
@@ -119,29 +119,29 @@ module _ (scale places : ℕ) (b : Book) (x : Transfer) where
           ∙ ap (λ (ps : List Piece). lay ps t) same_pieces
 
       -- the tip's number: what was lifted is there and no time has passed, so that the destination alone decides; and so it is with the transfer's
-      tip_is : x.source ≢ x.destination → own places lifted down ≡ first (5 if leb b.vessels x.destination ∷ 9 if ltb TOP (held x.destination b.pieces + x.weight) ∷ [])
+      tip_is : x.source ≢ x.destination → own len lifted down ≡ first (5 if leb b.vessels x.destination ∷ 9 if ltb TOP (held x.destination b.pieces + x.weight) ∷ [])
       unfolding tip_checks
       tip_is apart = grind (arith, nat_tests, on_scale, fits.weighty, in_others apart)
 
-      post_is : length lifted.pieces ≤ places → x.source ≢ x.destination
-          → own places b whole ≡ first (5 if leb b.vessels x.destination ∷ 9 if ltb TOP (held x.destination b.pieces + x.weight) ∷ [])
+      post_is : length lifted.pieces ≤ places_in len → x.source ≢ x.destination
+          → own len b whole ≡ first (5 if leb b.vessels x.destination ∷ 9 if ltb TOP (held x.destination b.pieces + x.weight) ∷ [])
       unfolding transfer_checks
       post_is room apart = grind (arith, nat_tests, fits, same_length)
 
-      post_back : x.source ≡ x.destination → own places b whole ≡ 6
+      post_back : x.source ≡ x.destination → own len b whole ≡ 6
       unfolding transfer_checks
       post_back same = grind (arith, nat_tests, fits.source_in)
 
     -- where nothing is amiss with the destination, the lift's number is the transfer's
-    lift_is : x.destination < b.vessels → x.source ≢ x.destination → held x.destination b.pieces + x.weight ≤ TOP → own places b whole ≡ own places b up
+    lift_is : x.destination < b.vessels → x.source ≢ x.destination → held x.destination b.pieces + x.weight ≤ TOP → own len b whole ≡ own len b up
     unfolding transfer_checks lift_checks
     lift_is inside apart room = grind (arith, nat_tests, same_length)
 
     -- a transfer that is accepted has a lift that is
-    lift_accepted : own places b whole ≡ 0 → own places b up ≡ 0
+    lift_accepted : own len b whole ≡ 0 → own len b up ≡ 0
     lift_accepted e = grind (arith, fit (of_book b) x (post_passed e).0, lift_is)
 
-    decides : own places b up ≡ 0 → x.source ≢ x.destination → own places b whole ≡ own places lifted down
+    decides : own len b up ≡ 0 → x.source ≢ x.destination → own len b whole ≡ own len lifted down
     decides z apart = let p = lift_passed z in post_is p.0 p.1 apart ∙ sym (tip_is p.0 apart)
 
     divides : Divides
@@ -157,5 +157,5 @@ module _ (scale places : ℕ) (b : Book) (x : Transfer) where
     }
 
 -- THE THEOREM, on every sound book, loaded or not, and every number for the scale.
-pub second_scale : (scale places : ℕ) (b : Book) → SoundBook places b → b.vessels ≤ scale → held scale b.pieces ≡ 0 → (x : Transfer) → Divides scale places b x
-second_scale scale places b o beyond bare x = divides scale places b x (all_map (λ p f. f.weighty) o.sound) beyond bare (rule_beyond b.vessels scale b.rules o.rules_known beyond)
+pub second_scale : (scale len : ℕ) (b : Book) → SoundBook len b → b.vessels ≤ scale → held scale b.pieces ≡ 0 → (x : Transfer) → Divides scale len b x
+second_scale scale len b o beyond bare x = divides scale len b x (all_map (λ p f. f.weighty) o.sound) beyond bare (rule_beyond b.vessels scale b.rules o.rules_known beyond)

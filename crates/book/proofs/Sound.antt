@@ -3,12 +3,12 @@
 -- for transfer, lift and tip, over whatever rule their source has; each kind of call has one clause of `keeps`. The count of pieces goes on as document 01
 -- says where the pick is by one of the four first rules, which give at most one piece more (`count_kept`).
 -- Assumes nothing.
-use Rattle.std.proofs.Common.{◌≡◌, ◌⊎◌, refl, sym, ◌↔◌, ◌≢◌, true, false, List, [], ◌∷◌, ◌++◌, ℕ, zero, suc, ◌+◌, ◌-◌, ◌*◌, ◌≤◌, ◌<◌, min, arith, T, ltb, eqb, length, drop, length-append, length-drop}
+use Rattle.std.proofs.Common.{◌≡◌, ◌⊎◌, refl, sym, ◌↔◌, ◌≢◌, true, false, List, [], ◌∷◌, ◌++◌, ℕ, zero, suc, ◌+◌, ◌-◌, ◌*◌, ◌≤◌, ◌<◌, min, arith, T, ltb, eqb, length, drop, length-append, length-drop, ◌∙◌}
 use Rattle.std.proofs.lemmas.Bool.Decides.{nat_tests}
 use borrow.Author.Tests.{eqb-false}
 use Rattle.table.specs.declared.Piece.{Piece}
 use Rattle.table.specs.Pieces.{only, held, All}
-use Rattle.table.specs.Table.{flat, lay, places_of}
+use Rattle.table.specs.Table.{flat, lay, places_in}
 use Rattle.table.proofs.Table.{length_flat, quad_is, places_fit}
 use Rattle.taking.specs.Stirring.{stirred_rule}
 use Rattle.taking.proofs.Taking.{Fair, singly_law}
@@ -28,10 +28,10 @@ use Rattle.book.proofs.Checks.{fit, lift_fit, tip_fit, setting_fit}
 
 -- the number that a call's own checks give it on a book, and its number on a book that adds up
 abbrev pub own : ℕ → Book → Meaning → ℕ
-own places b m = first (m.checks places b)
+own len b m = first (m.checks len b)
 
 unfoldable pub number : ℕ → Book → Call → ℕ
-number places b c = or_else (1 if eqb places 0) (own places b (meaning c))
+number len b c = or_else (1 if eqb (places_in len) 0) (own len b (meaning c))
 
 -- A book that adds up; its balances are the sums.
 pub record SoundPiece (size last : ℕ) (p : Piece) : Type 0 where
@@ -40,11 +40,11 @@ pub record SoundPiece (size last : ℕ) (p : Piece) : Type 0 where
   pub past : p.birth ≤ last
   pub weighty : 1 ≤ p.weight
 
-pub record SoundBook (places : ℕ) (b : Book) : Type 0 where
+pub record SoundBook (len : ℕ) (b : Book) : Type 0 where
   pub known : b.rule ≤ last_rule
   pub some_vessel : 1 ≤ b.vessels
   pub vessels_fit : b.vessels ≤ most_vessels
-  pub fits : length b.pieces ≤ places
+  pub fits : length b.pieces ≤ places_in len
   pub rules_known : rules_fit b.vessels b.rules ≡ true
   pub sound : All (SoundPiece b.vessels b.last) b.pieces
 
@@ -53,27 +53,24 @@ pub record SizedBook (b : Book) : Type 0 where
   pub light : (v : ℕ) → held v b.pieces ≤ TOP
   pub tally : b.accepted ≤ TOP
 
--- Pieces that lie in a table of so many places, and what lies behind them.
-pub record Lies (places : ℕ) (ps : List Piece) (t : List ℕ) : Type 0 where
+-- Pieces that lie in a table of so many numbers, and what lies behind them.
+pub record Lies (len : ℕ) (ps : List Piece) (t : List ℕ) : Type 0 where
   pub tail : List ℕ
   pub table_is : t ≡ flat ps ++ tail
-  pub places_is : places_of t ≡ places
+  pub long : length t ≡ len
 
 -- What an accepted call of this meaning keeps.
-pub record Keeps (places : ℕ) (b : Book) (x : Meaning) : Type 0 where
-  pub sound : SoundBook places (x.next b)
-  pub lies : (t : List ℕ) → Lies places b.pieces t → Lies places (x.next b).pieces (x.table b t)
-  pub long : (t : List ℕ) → Lies places b.pieces t → length (x.table b t) ≡ length t
+pub record Keeps (len : ℕ) (b : Book) (x : Meaning) : Type 0 where
+  pub sound : SoundBook len (x.next b)
+  pub lies : (t : List ℕ) → Lies len b.pieces t → Lies len (x.next b).pieces (x.table b t)
   pub tally : (x.next b).accepted ≡ x.counts + b.accepted
 
 -- pieces laid on a table that has places for them
-module _ (places : ℕ) (ps qs : List Piece) (t : List ℕ) (h : length qs ≤ places) (l : Lies places ps t) where
-  laid_long : length (lay qs t) ≡ length t
-  laid_long = let f = places_fit t (length qs) places (sym l.places_is) h in simp (length-append, length_flat, ← quad_is, length-drop) (omega arith)
-
-  laid : Lies places qs (lay qs t)
-  unfolding places_of
-  laid = record { tail = drop (4 * length qs) t; table_is = refl; places_is = rw laid_long l.places_is }
+laid : (len : ℕ) (ps qs : List Piece) (t : List ℕ) → length qs ≤ places_in len → Lies len ps t → Lies len qs (lay qs t)
+laid len ps qs t h l =
+    let f = places_fit t (length qs) (places_in len) (rw l.long refl) h in
+    let same : length (lay qs t) ≡ length t = simp (length-append, length_flat, ← quad_is, length-drop) (omega arith) in
+    record { tail = drop (4 * length qs) t; table_is = refl; long = same ∙ l.long }
 
 -- What a motion takes from a book, whatever the rule of its source.
 module _ (b : Book) (m : Motion) where
@@ -120,8 +117,8 @@ module _ (b : Book) (m : Motion) where
         handed_all m.moves b.pieces _ takes_fair (SoundPiece b.vessels b.last) (SoundPiece b.vessels m.minute)
         (λ p w u q. grind arith) (λ p q. grind arith) (λ p u q. grind arith) (λ u. grind (arith, f.origin_in u)) s
 
-    pub motion_sound : (places : ℕ) → SoundBook places b → length (pieces_after b m) ≤ places → SoundBook places (book_after b m)
-    motion_sound places o h = grind (arith, after_length, pieces_sound)
+    pub motion_sound : (len : ℕ) → SoundBook len b → length (pieces_after b m) ≤ places_in len → SoundBook len (book_after b m)
+    motion_sound len o h = grind (arith, after_length, pieces_sound)
 
   -- its numbers stay of 32 bits where the destination has room
   pub motion_light : ((v : ℕ) → held v b.pieces ≤ TOP) → held m.moves.destination b.pieces + m.moves.weight ≤ TOP → (v : ℕ) → held v (pieces_after b m) ≤ TOP
@@ -156,15 +153,15 @@ place_is zero places ps = refl
 place_is (suc n) places ps = refl
 
 -- What is posted: its number, and what it leaves.
-module _ (p : Terms) (ok : Proper p) (places : ℕ) (b : Book) where
+module _ (p : Terms) (ok : Proper p) (len : ℕ) (b : Book) where
   abbrev m : Motion
   m = motion_on p b
 
   abbrev pub of_checks : ℕ
   of_checks = first (p.checks (of_book b))
 
-  pub posted_own : own places b (posting_meaning p) ≡ if_zero of_checks (if_zero p.counts 0 (or_else (11 if ltb places (length (pieces_after b m))) 0)) of_checks
-  posted_own = rw (← (place_is p.counts places (pieces_after b m))) (first_append (p.checks (of_book b)) _ (ok.named (of_book b)))
+  pub posted_own : own len b (posting_meaning p) ≡ if_zero of_checks (if_zero p.counts 0 (or_else (11 if ltb (places_in len) (length (pieces_after b m))) 0)) of_checks
+  posted_own = rw (← (place_is p.counts (places_in len) (pieces_after b m))) (first_append (p.checks (of_book b)) _ (ok.named (of_book b)))
 
   -- what does not count splits nothing, and nothing is born
   pub whole : p.counts ≡ 0 → (takes b m).split + (takes b m).born ≡ 0
@@ -175,42 +172,40 @@ module _ (p : Terms) (ok : Proper p) (places : ℕ) (b : Book) where
       → length (pieces_after b m) + if_zero p.counts 0 (even_of (answer_of (takes b m))) ≡ length b.pieces + p.counts
   posted_count first = let one = ok.once in grind (arith, after_length b m, one_more b m first, whole)
 
-  pub posted_fits : SoundBook places b → own places b (posting_meaning p) ≡ 0 → (of_checks ≡ 0) × (length (pieces_after b m) ≤ places)
+  pub posted_fits : SoundBook len b → own len b (posting_meaning p) ≡ 0 → (of_checks ≡ 0) × (length (pieces_after b m) ≤ places_in len)
   posted_fits o e = grind (arith, nat_tests, posted_own, after_length b m, whole, o.fits)
 
   posted_sane : of_checks ≡ 0 → Sane b m
   posted_sane e = let f = ok.fits (of_book b) e in let one = ok.once in grind (arith, nat_tests, whole, f.into)
 
-  pub posted_keeps : SoundBook places b → own places b (posting_meaning p) ≡ 0 → Keeps places b (posting_meaning p)
+  pub posted_keeps : SoundBook len b → own len b (posting_meaning p) ≡ 0 → Keeps len b (posting_meaning p)
   posted_keeps o e =
       let a = posted_fits o e in
       record {
-        sound = motion_sound b m (posted_sane a.0) places o a.1;
-        lies = λ t l. laid places b.pieces _ t a.1 l;
-        long = λ t l. laid_long places b.pieces _ t a.1 l;
+        sound = motion_sound b m (posted_sane a.0) len o a.1;
+        lies = λ t l. laid len b.pieces _ t a.1 l;
         tally = omega arith;
       }
 
 -- a call that is accepted has passed its own checks
-pub passed_own : (places : ℕ) (b : Book) (c : Call) → number places b c ≡ 0 → own places b (meaning c) ≡ 0
+pub passed_own : (len : ℕ) (b : Book) (c : Call) → number len b c ≡ 0 → own len b (meaning c) ≡ 0
 unfolding number
-passed_own places b c e = grind arith
+passed_own len b c e = grind arith
 
 -- Each kind of call has one clause.
-pub keeps : (places : ℕ) (b : Book) (c : Call) → SoundBook places b → number places b c ≡ 0 → Keeps places b (meaning c)
-keeps places b (enter p) o e = posted_keeps (terms p) (proper p) places b o (passed_own places b (enter p) e)
-keeps places b (ask q room) o e = record { sound = o; lies = λ t l. l; long = λ t l. refl; tally = omega arith }
-keeps places b (set_rule s) o e =
-    let f = setting_fit b.vessels s (passed_own places b (set_rule s) e) in
+pub keeps : (len : ℕ) (b : Book) (c : Call) → SoundBook len b → number len b c ≡ 0 → Keeps len b (meaning c)
+keeps len b (enter p) o e = posted_keeps (terms p) (proper p) len b o (passed_own len b (enter p) e)
+keeps len b (ask q room) o e = record { sound = o; lies = λ t l. l; tally = omega arith }
+keeps len b (set_rule s) o e =
+    let f = setting_fit b.vessels s (passed_own len b (set_rule s) e) in
     record {
       sound = grind (arith, set_fit b.vessels s.vessel s.rule b.rules f.vessel_in f.rule_known o.rules_known);
       lies = λ t l. l;
-      long = λ t l. refl;
       tally = omega arith;
     }
 
 -- The count of pieces goes on as that of transfers does, but for the even ones, where the pick is by one of the four first rules.
-pub count_kept : (places : ℕ) (b : Book) (c : Call) → asks_stirred b.rules c ≡ false
+pub count_kept : (len : ℕ) (b : Book) (c : Call) → asks_stirred b.rules c ≡ false
     → length ((meaning c).next b).pieces + (meaning c).even b ≡ length b.pieces + (meaning c).counts
-count_kept places b (enter p) u = posted_count (terms p) (proper p) places b (eqb-false _ _ u)
-count_kept places b c u = omega arith
+count_kept len b (enter p) u = posted_count (terms p) (proper p) len b (eqb-false _ _ u)
+count_kept len b c u = omega arith

@@ -3,7 +3,7 @@
 -- 1 gram, and the gifts sum to q: what is left of each stays in its order, and behind all that stays lies what each gives, in the order of receipt.
 -- "With q ≥ T all moves, in order of receipt, and the rest is born."
 -- Assumes nothing.
-use Rattle.std.proofs.Common.{◌≡◌, refl, sym, ap, ◌∙◌, append-nil, List, ◌++◌, map, ℕ, ◌+◌, ◌-◌, ◌*◌, ◌≤◌, ◌<◌, arith, length, get_or}
+use Rattle.std.proofs.Common.{◌≡◌, refl, sym, ap, append-nil, List, ◌++◌, map, ℕ, ◌+◌, ◌-◌, ◌*◌, ◌≤◌, ◌<◌, arith, length, get_or, ◌∙◌}
 use Rattle.sharing.specs.Sharing.{sum_of}
 use Rattle.sharing.proofs.Shares.{Within}
 use Rattle.table.specs.declared.Piece.{Piece}

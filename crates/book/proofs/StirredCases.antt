@@ -5,7 +5,7 @@
 -- Assumes nothing.
 use Rattle.std.proofs.Common.{◌≡◌, refl, Bool, true, false, List, [], ◌∷◌, ◌++◌, map, ℕ, replicate}
 use Rattle.sharing.specs.Sharing.{up_to, shares}
-use Rattle.table.specs.Table.{pieces_of, flat, places_of}
+use Rattle.table.specs.Table.{pieces_of, flat, places_in}
 use Rattle.taking.specs.Selection.{precedes}
 use Rattle.taking.specs.Stirring.{giving}
 use Rattle.taking.specs.Taking.{take_up_to, taken}
@@ -74,7 +74,7 @@ cases =
     ∷ []
 
 pub stirred_cases : map seen cases ≡ map (λ c. c.wanted) cases
-unfolding cases calls_on call_on number_of book_checks adds_up rules_fit all_zero every same balances_of tab places_of pieces_of flat opening transfer_checks lift_checks tip_checks setting_checks takes taken take_up_to precedes giving shares up_to
+unfolding cases calls_on call_on number_of book_checks adds_up rules_fit all_zero every same balances_of tab places_in pieces_of flat opening transfer_checks lift_checks tip_checks setting_checks takes taken take_up_to precedes giving shares up_to
 stirred_cases = refl
 
 -- Which lists use rule 4: a pick under it that is accepted, or refused for want of places, but none that is refused before, and no setting, tip or report.
@@ -102,7 +102,7 @@ full_table = even_lots ++ (give 1 2 4 1 0 ∷ [])
 
 pub stirred_lists : map used (unpicked ∷ (lots ++ (give 0 1 5 1 0 ∷ [])) ∷ (lots ++ (lift (lift_of 0 5 1 0) ∷ [])) ∷ (full_table ++ (give 0 1 5 10 0 ∷ [])) ∷ (full_table ++ (lift (lift_of 0 5 10 0) ∷ [])) ∷ (full_table ++ (set_to 0 0 ∷ give 0 1 5 10 0 ∷ [])) ∷ [])
     ≡ false ∷ true ∷ true ∷ true ∷ true ∷ false ∷ []
-unfolding calls_on call_on number_of book_checks adds_up rules_fit all_zero every same balances_of tab places_of pieces_of flat opening transfer_checks lift_checks tip_checks setting_checks report_checks rows takes taken take_up_to precedes giving shares up_to
+unfolding calls_on call_on number_of book_checks adds_up rules_fit all_zero every same balances_of tab places_in pieces_of flat opening transfer_checks lift_checks tip_checks setting_checks report_checks rows takes taken take_up_to precedes giving shares up_to
 stirred_lists = refl
 
 pub setting_lists : map sets_none (unpicked ∷ (set_to 0 3 ∷ set_to 1 4 ∷ []) ∷ (set_to 0 3 ∷ set_to 1 5 ∷ give 0 1 5 4 0 ∷ lift (lift_of 0 4 4 4) ∷ tip (tip_of 4 4) ∷ ask Whole [] ∷ []) ∷ []) ≡ false ∷ false ∷ true ∷ []

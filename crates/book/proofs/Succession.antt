@@ -5,9 +5,9 @@
 -- SecondScale.antt shows it of a book and any scale; here that scale is the book's own, so that lift and tip are calls on a head and a table. And
 -- `beside_the_load`: of an accepted transfer on any head and table, whatever is on the scale, with a second scale.
 -- Assumes nothing.
-use Rattle.std.proofs.Common.{◌≡◌, refl, sym, ap, ◌∙◌, subst, ◌≢◌, List, [], ℕ, zero, suc, ◌+◌, ◌≤◌, ◌<◌, arith}
+use Rattle.std.proofs.Common.{◌≡◌, refl, sym, ap, subst, ◌≢◌, List, [], ℕ, zero, suc, ◌+◌, ◌≤◌, ◌<◌, arith, length, ◌∙◌}
 use Rattle.table.specs.Pieces.{held}
-use Rattle.table.specs.Table.{places_of}
+use Rattle.table.specs.Table.{places_in}
 use Rattle.refusal.specs.Numbers.{TOP, first}
 use Rattle.book.specs.declared.Head.{Head}
 use Rattle.book.specs.declared.Transfer.{Transfer}
@@ -51,8 +51,8 @@ module _ (h : Head) (t : List ℕ) (x : Transfer) where
 
   -- On a book that adds up.
   module _ (e : first (book_checks h t) ≡ 0) where
-    abbrev places : ℕ
-    places = places_of t
+    abbrev len : ℕ
+    len = length t
 
     abbrev b : Book
     b = book_of h t
@@ -60,42 +60,42 @@ module _ (h : Head) (t : List ℕ) (x : Transfer) where
     a : AddsUp h t
     a = adds_up_told h t (book_passed h t e).1
 
-    sound : SoundBook places b
+    sound : SoundBook len b
     sound = adds_sound h t a
 
-    held_on : On places h t b
+    held_on : On len h t b
     held_on = adds_on h t a
 
-    some : places ≢ 0
-    unfolding places_of
+    some : places_in len ≢ 0
+    unfolding places_in
     some z = let k = (book_passed h t e).0 in omega arith
 
     -- a number is that of its own checks
-    own_number : (h' : Head) (t' : List ℕ) (b' : Book) → On places h' t' b' → SoundBook places b' → (c : Call) → (call_on h' t' c).number ≡ own places b' (meaning c)
+    own_number : (h' : Head) (t' : List ℕ) (b' : Book) → On len h' t' b' → SoundBook len b' → (c : Call) → (call_on h' t' c).number ≡ own len b' (meaning c)
     unfolding number
-    own_number h' t' b' on o c = call_number h' t' c ∙ number_same places h' t' b' on o c ∙ grind (arith, some)
+    own_number h' t' b' on o c = call_number h' t' c ∙ number_same len h' t' b' on o c ∙ grind (arith, some)
 
-    number_is : (c : Call) → (call_on h t c).number ≡ own places b (meaning c)
+    number_is : (c : Call) → (call_on h t c).number ≡ own len b (meaning c)
     number_is = own_number h t b held_on sound
 
     -- With nothing on the scale.
     module _ (bare : h.scale ≡ 0) where
-      common : Divides the_scale places b x
-      common = second_scale the_scale places b sound a.vessels_fit (sym a.scale_is ∙ bare) x
+      common : Divides the_scale len b x
+      common = second_scale the_scale len b sound a.vessels_fit (sym a.scale_is ∙ bare) x
 
       -- the lift is accepted
       module _ (z : up.number ≡ 0) where
-        step : InStep places h t b held_on sound (lift (lift_part x)) 0
+        step : InStep len h t b held_on sound (lift (lift_part x)) 0
         step =
-            let n = sym (number_same places h t b held_on sound (lift (lift_part x))) ∙ sym (call_number h t (lift (lift_part x))) ∙ z in
-            subst (λ (n : ℕ). InStep places h t b held_on sound (lift (lift_part x)) n) n (in_step places h t b held_on sound (lift (lift_part x)))
+            let n = sym (number_same len h t b held_on sound (lift (lift_part x))) ∙ sym (call_number h t (lift (lift_part x))) ∙ z in
+            subst (λ (n : ℕ). InStep len h t b held_on sound (lift (lift_part x)) n) n (in_step len h t b held_on sound (lift (lift_part x)))
 
-        down_number : down.number ≡ own places (lifted the_scale places b x) (posting_meaning (tip_terms the_scale (tip_part x)))
+        down_number : down.number ≡ own len (lifted the_scale len b x) (posting_meaning (tip_terms the_scale (tip_part x)))
         down_number = own_number up.head up.table _ step.holds step.sound (tip (tip_part x))
 
         -- and the transfer too
         module _ (w : whole.number ≡ 0) where
-          passed : own places b (meaning (post x)) ≡ 0
+          passed : own len b (meaning (post x)) ≡ 0
           passed = sym (number_is (post x)) ∙ w
 
           whole_is : whole ≡ outcome h t (meaning (post x)) 0
@@ -110,8 +110,8 @@ module _ (h : Head) (t : List ℕ) (x : Transfer) where
           down_is : down ≡ outcome up.head up.table (meaning (tip (tip_part x))) 0
           down_is = accepted_on up.head up.table (tip (tip_part x)) (sym (call_number up.head up.table (tip (tip_part x))) ∙ down_zero)
 
-          book_is : book_of up.head up.table ≡ lifted the_scale places b x
-          book_is = back places up.head up.table _ step.holds step.sound
+          book_is : book_of up.head up.table ≡ lifted the_scale len b x
+          book_is = back len up.head up.table _ step.holds step.sound
 
           same_head : down.head ≡ whole.head
           same_head =
@@ -124,7 +124,7 @@ module _ (h : Head) (t : List ℕ) (x : Transfer) where
           same_table =
               ap (λ (o : Outcome). o.table) down_is
               ∙ ap (λ (k : Book). (meaning (tip (tip_part x))).table k up.table) book_is
-              ∙ ap (λ (o : Outcome). (meaning (tip (tip_part x))).table (lifted the_scale places b x) o.table) up_is
+              ∙ ap (λ (o : Outcome). (meaning (tip (tip_part x))).table (lifted the_scale len b x) o.table) up_is
               ∙ common.same_table passed t
               ∙ sym (ap (λ (o : Outcome). o.table) whole_is)
 
@@ -134,7 +134,7 @@ module _ (h : Head) (t : List ℕ) (x : Transfer) where
       lift_first : whole.number ≡ 0 → up.number ≡ 0
       lift_first w = number_is (lift (lift_part x)) ∙ (common.both_pass (sym (number_is (post x)) ∙ w)).0
 
-      accepted : up.number ≡ 0 → own places b (posting_meaning (lift_terms the_scale (lift_part x))) ≡ 0
+      accepted : up.number ≡ 0 → own len b (posting_meaning (lift_terms the_scale (lift_part x))) ≡ 0
       accepted z = sym (number_is (lift (lift_part x))) ∙ z
 
       on : Succession h t x whole up down
@@ -167,7 +167,7 @@ pub beside_the_load : (h : Head) (t : List ℕ) (x : Transfer) (scale : ℕ) →
 beside_the_load h t x scale beyond empty w =
     let z = sym (call_number h t (post x)) ∙ w in
     let e = passed_book h t (post x) z in
-    let c = second_scale scale (places_of t) (book_of h t) (sound h t x e) beyond empty x in
+    let c = second_scale scale (length t) (book_of h t) (sound h t x e) beyond empty x in
     let p = sym (number_is h t x e (post x)) ∙ w in
     accepted_on h t (post x) z
     ∙ sym (λ i. record { number = 0; answer = c.same_answer.0 i; head = head_of (c.same_book p i); table = c.same_table p t i; room = []; even = c.same_answer.1 i })

@@ -1,10 +1,9 @@
 -- LISTS THAT NEVER USE RULE 4. A list in which no accepted call sets it makes no pick under it (`first_rules`), from any opening on. The idea: opening gives
 -- one of the four first rules, and only an accepted setting alters a vessel's.
 -- Assumes nothing.
-use Rattle.std.proofs.Common.{◌≡◌, refl, Bool, true, false, List, [], ◌∷◌, ℕ, zero, suc, arith, ne_eqb}
+use Rattle.std.proofs.Common.{◌≡◌, refl, Bool, true, false, List, [], ◌∷◌, ℕ, zero, suc, arith, ne_eqb, length}
 use Rattle.std.specs.List.{list_all}
 use borrow.Author.Tests.{eqb-false}
-use Rattle.table.specs.Table.{places_of}
 use Rattle.book.specs.declared.Head.{Head}
 use Rattle.book.specs.Head.{Book, opened, opening}
 use Rattle.book.specs.Calls.{Call, enter, set_rule, terms, meaning}
@@ -25,14 +24,14 @@ still_unstirred : (b : Book) (c : Call) → sets_stirred c ≡ false → Unstirr
 still_unstirred b (set_rule s) u none = set_unstirred s.vessel s.rule b.rules (eqb-false _ _ u) none
 still_unstirred b c u none = none
 
-module _ (places : ℕ) where
+module _ (len : ℕ) where
   abbrev Unused : Book → List Entry → Book → Type 0
   Unused b es z = Unstirred b.rules → sets_none (answered es) ≡ true → stirs es ≡ false
 
-  more : (b : Book) (c : Call) (es : List Entry) (z : Book) → SoundBook places b → Unused (step places b c) es z → Unused b (entry places b c ∷ es) z
-  more b c es z o rest none e = rw (asks_none b.rules none c) (go (number places b c) refl)
+  more : (b : Book) (c : Call) (es : List Entry) (z : Book) → SoundBook len b → Unused (step len b c) es z → Unused b (entry len b c ∷ es) z
+  more b c es z o rest none e = rw (asks_none b.rules none c) (go (number len b c) refl)
     where
-      go : (n : ℕ) → number places b c ≡ n → stirs es ≡ false
+      go : (n : ℕ) → number len b c ≡ n → stirs es ≡ false
       go zero q = let r = rw q at e in let next : Unused ((meaning c).next b) es z = rw q at rest in next (still_unstirred b c (grind arith) none) (grind arith)
       go (suc n) q = let r = rw q at e in let next : Unused b es z = rw q at rest in next none r
 
@@ -42,7 +41,7 @@ pub first_rules : (rule size : ℕ) → (opening rule size).number ≡ 0 → (t 
 first_rules rule size e t cs none =
     let o = opening_passed rule size e in
     let given : Unstirred (opened rule size).rules = given_unstirred rule size (openable rule size o.0).rule_known (openable rule size o.0).few_vessels in
-    (from_opening (places_of t) (Unused (places_of t)) (λ b u e. refl) (more (places_of t)) rule size e t refl cs).related given none
+    (from_opening (length t) (Unused (length t)) (λ b u e. refl) (more (length t)) rule size e t refl cs).related given none
 
 -- what holds of all calls of a list holds of those answered 0
 pub answered_all : (p : Call → Bool) (cs : List Call) (h : Head) (t : List ℕ) → list_all p cs ≡ true → list_all p (answered (calls_on h t cs).log) ≡ true

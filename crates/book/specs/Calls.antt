@@ -2,7 +2,7 @@
 -- Definitions only. Assumes nothing.
 use Rattle.std.specs.Prelude.{List, [], ◌∷◌, ◌++◌, ℕ, zero, suc, ◌+◌, ltb, length}
 use Rattle.table.specs.declared.Piece.{Piece}
-use Rattle.table.specs.Table.{lay}
+use Rattle.table.specs.Table.{lay, places_in}
 use Rattle.taking.specs.Taken.{Taken}
 use Rattle.refusal.specs.Numbers.{Check, ◌if◌, if_zero}
 use Rattle.book.specs.declared.Transfer.{Transfer}
@@ -74,13 +74,13 @@ silence room = record { answer = no_answer; room = room }
 
 -- What a call means, on any book.
 pub record Meaning : Type 0 where
-  -- its checks after 1 and 4, on a table of so many places
+  -- its checks after 1 and 4, on a table of so many numbers
   pub checks : ℕ → Book → List Check
   -- where it is accepted: what it tells, the book and the table that it leaves
   pub told : Book → Told
   pub next : Book → Book
   pub table : Book → List ℕ → List ℕ
-  -- where it is refused with a number, on a table of so many places: what it tells
+  -- where it is refused with a number, on a table of so many numbers: what it tells
   pub refused : ℕ → ℕ → Book → Told
   -- how often it counts as a transfer, and how often as an even one where it is accepted
   pub counts : ℕ
@@ -94,7 +94,7 @@ unmoved checks told lent =
       told = told;
       next = λ b. b;
       table = λ b t. t;
-      refused = λ n places b. silence lent;
+      refused = λ n len b. silence lent;
       counts = 0;
       even = λ b. 0;
     }
@@ -112,20 +112,20 @@ motion_on p b = motion p (of_book b)
 abbrev pub posting_meaning : Terms → Meaning
 posting_meaning p =
     record {
-      checks = λ places b. p.checks (of_book b) ++ place_checks p.counts places (pieces_after b (motion_on p b));
+      checks = λ len b. p.checks (of_book b) ++ place_checks p.counts (places_in len) (pieces_after b (motion_on p b));
       told = λ b. record { answer = answer_of (takes b (motion_on p b)); room = [] };
       next = λ b. book_after b (motion_on p b);
       table = λ b. lay (pieces_after b (motion_on p b));
-      refused = λ n places b. silence [];
+      refused = λ n len b. silence [];
       counts = p.counts;
       even = λ b. if_zero p.counts 0 (even_of (answer_of (takes b (motion_on p b))));
     }
 
 abbrev pub meaning : Call → Meaning
 meaning (enter p) = posting_meaning (terms p)
-meaning (set_rule s) = record (unmoved (λ places b. setting_checks b.vessels s) (λ b. silence []) []) { next = λ b. with_rule b s }
+meaning (set_rule s) = record (unmoved (λ len b. setting_checks b.vessels s) (λ b. silence []) []) { next = λ b. with_rule b s }
 meaning (ask q room) =
     unmoved
-    (λ places b. report_checks b.vessels (length room) q)
+    (λ len b. report_checks b.vessels (length room) q)
     (λ b. silence (onto (report_row b.vessels b.pieces q) room))
     room

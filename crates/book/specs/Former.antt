@@ -6,7 +6,7 @@
 use Rattle.std.specs.Prelude.{Bool, ◌&&◌, not, List, [], ◌∷◌, ◌++◌, ℕ, suc, ◌+◌, ◌-◌, leb, ltb, eqb, length}
 use Rattle.table.specs.Pieces.{only}
 use Rattle.table.specs.declared.Piece.{Piece}
-use Rattle.table.specs.Table.{pieces_of, places_of}
+use Rattle.table.specs.Table.{pieces_of}
 use Rattle.refusal.specs.Numbers.{TOP, Check, ◌if◌, first}
 use Rattle.book.specs.declared.Head.{Head}
 use Rattle.book.specs.declared.Transfer.{Transfer}
@@ -50,7 +50,7 @@ former_book_checks h t = 1 if ltb (length t) 4 ∷ 4 if not (all_of (former_test
 
 -- its number on a head and a table, and all that it gives back and leaves
 abbrev pub former_number : Head → List ℕ → ℕ → ℕ → ℕ → ℕ → ℕ
-former_number h t s d m q = first (former_book_checks h t ++ (former_meaning s d m q).checks (places_of t) (book_of h t))
+former_number h t s d m q = first (former_book_checks h t ++ (former_meaning s d m q).checks (length t) (book_of h t))
 
 abbrev pub former_on : Head → List ℕ → ℕ → ℕ → ℕ → ℕ → Outcome
 former_on h t s d m q = outcome h t (former_meaning s d m q) (former_number h t s d m q)

@@ -3,7 +3,6 @@
 -- given; no lent memory changes."
 -- Definitions only. Assumes nothing.
 use Rattle.std.specs.Prelude.{not, List, [], ◌∷◌, ◌++◌, ℕ, zero, suc, ltb, length}
-use Rattle.table.specs.Table.{places_of}
 use Rattle.refusal.specs.Numbers.{Check, ◌if◌, first}
 use Rattle.book.specs.declared.Head.{Head}
 use Rattle.book.specs.declared.Transferred.{Transferred}
@@ -26,7 +25,7 @@ unfoldable pub book_checks : Head → List ℕ → List Check
 book_checks h t = 1 if ltb (length t) 4 ∷ 4 if not (adds_up h t) ∷ []
 
 unfoldable pub number_of : Head → List ℕ → Call → ℕ
-number_of h t c = first (book_checks h t ++ (meaning c).checks (places_of t) (book_of h t))
+number_of h t c = first (book_checks h t ++ (meaning c).checks (length t) (book_of h t))
 
 -- what a call of this meaning leaves, where this is its number
 abbrev pub outcome : Head → List ℕ → Meaning → ℕ → Outcome
@@ -34,7 +33,7 @@ outcome h t m zero =
     let b = book_of h t in
     record { number = 0; answer = (m.told b).answer; head = head_of (m.next b); table = m.table b t; room = (m.told b).room; even = m.even b }
 outcome h t m (suc n) =
-    let r = m.refused (suc n) (places_of t) (book_of h t) in
+    let r = m.refused (suc n) (length t) (book_of h t) in
     record { number = suc n; answer = r.answer; head = h; table = t; room = r.room; even = 0 }
 
 -- a call on a head and a table

@@ -4,7 +4,7 @@
 -- Definitions only. Assumes nothing.
 use Rattle.std.specs.Prelude.{Bool, not, List, [], ◌∷◌, ◌++◌, ℕ, ◌+◌, leb, ltb, length}
 use Rattle.table.specs.declared.Piece.{Piece}
-use Rattle.table.specs.Table.{pieces_of, lay, places_of}
+use Rattle.table.specs.Table.{pieces_of, lay, places_in}
 use Rattle.taking.specs.declared.Move.{Move}
 use Rattle.taking.specs.Taken.{Taken}
 use Rattle.taking.specs.Taking.{singly, handed}
@@ -26,7 +26,7 @@ former_pieces b x = handed x (former_takes b x)
 abbrev pub former_posting : Terms → Meaning
 former_posting p =
     record (posting_meaning p) {
-      checks = λ places b. p.checks (of_book b) ++ place_checks p.counts places (former_pieces b (motion_on p b).moves);
+      checks = λ len b. p.checks (of_book b) ++ place_checks p.counts (places_in len) (former_pieces b (motion_on p b).moves);
       told = λ b. record { answer = answer_of (former_takes b (motion_on p b).moves); room = [] };
       next = λ b. record { rule = b.rule; vessels = b.vessels; last = p.minute; accepted = b.accepted + p.counts; rules = b.rules; pieces = former_pieces b (motion_on p b).moves };
       table = λ b. lay (former_pieces b (motion_on p b).moves);
@@ -46,7 +46,7 @@ unfoldable pub one_rule_checks : Head → List ℕ → List Check
 one_rule_checks h t = 1 if ltb (length t) 4 ∷ 4 if not (all_of (former_count_tests h t ++ balanced h (pieces_of h.pieces t))) ∷ []
 
 unfoldable pub one_rule_number : Head → List ℕ → Call → ℕ
-one_rule_number h t c = first (one_rule_checks h t ++ (one_rule c).checks (places_of t) (book_of h t))
+one_rule_number h t c = first (one_rule_checks h t ++ (one_rule c).checks (length t) (book_of h t))
 
 unfoldable pub one_rule_on : Head → List ℕ → Call → Outcome
 one_rule_on h t c = outcome h t (one_rule c) (one_rule_number h t c)

@@ -5,7 +5,7 @@ use Rattle.std.proofs.Common.{◌≡◌, ◌∙◌, Option, Some, Result, Ok, Li
 use Rattle.std.proofs.lemmas.Bool.Decides.{nat_tests}
 use Rattle.table.specs.Pieces.{only, held, All}
 use Rattle.table.specs.Closing.{Present}
-use Rattle.table.specs.Table.{pieces_of, places_of}
+use Rattle.table.specs.Table.{pieces_of, places_of, places_in}
 use Rattle.table.proofs.Pieces.{all_map}
 use Rattle.table.proofs.Table.{places_fit}
 use Rattle.taking.specs.Taken.{Taken}
@@ -80,14 +80,14 @@ module _ (h : Head) (t : List ℕ) (w : Audited h t) (m : Motion) where
 
     -- what the move asks
     pub move_ready : (p : ℕ) → p ≡ places_of t → Ready h.pieces p m.moves t
-    unfolding places_of
+    unfolding places_in
     move_ready p ep =
         let present : All Present (pieces_of h.pieces t) = all_map (λ q g. let n = holder_bound h.vessels _ g.holder_in k.sound.vessels_fit in omega arith) k.sound.sound in
         grind (arith, k.few, places_fit t p p ep, present)
 
     -- what the next head asks, where there was a place
     pub countable : (a : Applied) → applied (places_of t) m.moves r ≡ Some a → Countable h m a
-    unfolding places_of applied takes
+    unfolding places_in applied takes
     countable a e = grind (arith, nat_tests, born_is, shifts)
 
     -- it was carried, whatever is answered where it was not

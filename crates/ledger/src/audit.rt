@@ -110,7 +110,7 @@ fn rules_fit(head: Head) -> bool
 }
 
 // Whether the book adds up: one pass over the pieces.
-#[tactic(auto, unfolding(book::specs::Head::adds_up, table::specs::Table::places_of))]
+#[tactic(auto, unfolding(book::specs::Head::adds_up, table::specs::Table::places_in))]
 pub fn adds_up(head: Head, table: &[u32]) -> bool
     ensures { result ≡ adds_up head table.now }
 {

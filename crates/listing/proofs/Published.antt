@@ -4,7 +4,7 @@ use mathlib.Core.List.{flat_map}
 use Rattle.std.proofs.Common.{◌≡◌, refl, List, [], ◌∷◌, ◌++◌, ℕ, replicate}
 use Rattle.table.specs.declared.Piece.{Piece}
 use Rattle.book.specs.declared.Head.{Head}
-use Rattle.table.specs.Table.{pieces_of, flat, places_of}
+use Rattle.table.specs.Table.{pieces_of, flat, places_in}
 use Rattle.taking.specs.Selection.{precedes}
 use Rattle.taking.specs.Taking.{take_up_to, taken}
 use Rattle.book.specs.Head.{empty_head, tab, balances_of, every, same, adds_up, rules_fit, opening, all_zero}
@@ -69,7 +69,7 @@ six =
 
 -- the table that is lent: eight places, and no zeros in it
 pub published_whole : sheet_listing (sheet_of 2 3 names six) (replicate 32 9) ≡ lines
-unfolding listing_text book_text first_line piece_lines piece_line decimal digits sheet_of bytes_of groups flat_map read_number no_sheet movements_off layout_off value_in exists well_formed letters all_zero entries_checks run_from run_number running call_on number_of book_checks adds_up rules_fit every same balances_of tab places_of pieces_of flat opening transfer_checks takes taken take_up_to precedes
+unfolding listing_text book_text first_line piece_lines piece_line decimal digits sheet_of bytes_of groups flat_map read_number no_sheet movements_off layout_off value_in exists well_formed letters all_zero entries_checks run_from run_number running call_on number_of book_checks adds_up rules_fit every same balances_of tab places_in pieces_of flat opening transfer_checks takes taken take_up_to precedes
 published_whole = refl
 
 -- "stopped 6 at 9"

@@ -4,7 +4,7 @@ use Rattle.std.proofs.Common.{◌≡◌, refl, sym, List, ℕ, zero, suc, ◌*�
 use Rattle.std.proofs.Math.Seq.{take-append_seam}
 use Rattle.refusal.specs.Numbers.{if_zero}
 use Rattle.refusal.proofs.Numbers.{not_zero}
-use Rattle.table.specs.Table.{most_places, pieces_of, places_of}
+use Rattle.table.specs.Table.{most_places, pieces_of, places_of, places_in}
 use Rattle.table.proofs.Table.{places_fit}
 use Rattle.book.proofs.Known.{AddsUp, adds_up_told}
 use Rattle.run.specs.declared.Ran.{Ran}
@@ -13,7 +13,7 @@ use Rattle.run.proofs.RunTheorem.{refused_run, run_theorem}
 use Rattle.listing.specs.Listing.{Listed, listing_text, book_text, refused_line, listing_of, sheet_listing, room_for, listing_room}
 
 few_places : (t : List ℕ) → places_of t ≤ most_places
-unfolding places_of
+unfolding places_in
 few_places t = omega arith
 
 -- the pieces lie in the table, and there are no more of them than a table has places

@@ -11,7 +11,7 @@ use Rattle.refusal.specs.declared.Refusal.TheVariants.{TableFull}
 use Rattle.refusal.specs.Numbers.{first}
 use Rattle.refusal.specs.Refusals.{number_of}
 use Rattle.refusal.proofs.Refusals.{some_number}
-use Rattle.table.specs.Table.{pieces_of, places_of, lay}
+use Rattle.table.specs.Table.{pieces_of, places_of, lay, places_in}
 use Rattle.table.proofs.Table.{pieces_over, places_fit}
 use Rattle.taking.specs.Taken.{Taken}
 use Rattle.taking.specs.Taking.{handed}
@@ -59,7 +59,7 @@ module _ (h : Head) (c : Contents) (t : List ℕ) (w : Audited h (written c t)) 
   pieces_are = pieces_over h.pieces c.pieces (drop (4 * length c.pieces) t) l.count
 
   places_are : places_of table ≡ places_of t
-  unfolding places_of
+  unfolding places_in
   places_are = rw (length_lay c.pieces t l.room) refl
 
   -- refused by a check
@@ -90,7 +90,7 @@ module _ (h : Head) (c : Contents) (t : List ℕ) (w : Audited h (written c t)) 
     takes_are = rw (rule_is, pieces_are) refl
 
     pub movable : (p : ℕ) → p ≡ places_of t → Movable p m.moves c
-    unfolding places_of
+    unfolding places_in
     movable p ep = grind (arith, f, k.few, places_are, l.count, vessels_fit h table w)
 
     -- The pieces were moved, or there was no place.

@@ -7,7 +7,7 @@ use lib.ListN.{get_or-eq_default}
 use lib.Seq.{sets, set_out}
 use Rattle.table.specs.declared.Piece.{Piece}
 use Rattle.table.specs.Pieces.{no_piece}
-use Rattle.table.specs.Table.{pieces_of, flat, first_piece, over, piece_in, put_in, places_of}
+use Rattle.table.specs.Table.{pieces_of, flat, first_piece, over, piece_in, put_in, places_of, places_in}
 
 abbrev pub quad : ℕ → ℕ
 quad zero = zero
@@ -140,5 +140,5 @@ module _ (n c : ℕ) (t t' : List ℕ) (p : Piece) (e : t' ≡ put_in n c p t) w
 
 -- as many pieces as places lie in the table
 pub places_fit : (t : List ℕ) (n m : ℕ) → m ≡ places_of t → n ≤ m → 4 * n ≤ length t
-unfolding places_of
+unfolding places_in
 places_fit t n m e h = omega arith

@@ -38,9 +38,12 @@ piece_in n t i = get_or (pieces_of n t) i no_piece
 abbrev pub put_in : ℕ → ℕ → Piece → List ℕ → List ℕ
 put_in n i p t = over n (set (pieces_of n t) i p) t
 
--- "Places = table length divided by 4, rounded down, but never above 4,096."
+-- The places of a table with so many numbers: their count divided by 4, rounded down, but never above 4,096.
 abbrev pub most_places : ℕ
 most_places = 4096
 
-unfoldable pub places_of : List ℕ → ℕ
-places_of t = min most_places (length t / 4)
+unfoldable pub places_in : ℕ → ℕ
+places_in len = min most_places (len / 4)
+
+abbrev pub places_of : List ℕ → ℕ
+places_of t = places_in (length t)

@@ -38,7 +38,7 @@ impl Piece {
 }
 
 // How many pieces the table has room for.
-#[tactic(auto, unfolding(crate::specs::Table::places_of))]
+#[tactic(auto, unfolding(crate::specs::Table::places_in))]
 pub fn places(table: &[u32]) -> usize
     ensures { result ≡ places_of table.now }
 {
