@@ -17,9 +17,9 @@ use Rattle.book.specs.Memory.{call_on}
 use Rattle.book.proofs.BalanceLaws.{balances_match, balance_held, fresh_head}
 use Rattle.book.proofs.RuleLaws.{given_fit}
 use Rattle.book.proofs.Checks.{fit}
-use Rattle.book.proofs.Sound.{number, SoundBook, SizedBook, motion_light, proper, posted_own, passed_own, keeps}
+use Rattle.book.proofs.Sound.{number, SoundBook, SizedBook, motion_light, proper, posted_own, passed_own}
 use Rattle.book.proofs.HeadLaws.{openable}
-use Rattle.book.proofs.Memory.{On, adds, number_same, in_step}
+use Rattle.book.proofs.Memory.{On, adds, in_step}
 use Rattle.book.proofs.Known.{Known, known_up}
 
 -- the head of a sound book whose numbers are of 32 bits has such numbers

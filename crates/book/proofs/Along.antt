@@ -1,13 +1,13 @@
 -- ONE INDUCTION OVER LISTS OF CALLS. A relation between a sound book, a journal and the book afterwards, that holds where nothing is called and
 -- is kept where a call is put in front, holds of every list of calls (`along`). What holds of the calls so far is such a relation too (`ever`).
 -- Assumes nothing.
-use Rattle.std.proofs.Common.{◌≡◌, refl, ap, subst, ◌&&◌, List, [], ◌∷◌, ◌++◌, ℕ, append_assoc, append-nil, length}
+use Rattle.std.proofs.Common.{◌≡◌, refl, ap, subst, List, [], ◌∷◌, ◌++◌, ℕ, append_assoc, append-nil, length}
 use Rattle.refusal.specs.Numbers.{if_zero}
 use Rattle.book.specs.declared.Head.{Head}
 use Rattle.book.specs.Head.{Book, opening, opened}
 use Rattle.book.specs.Calls.{Call, meaning}
 use Rattle.book.specs.Memory.{call_on}
-use Rattle.book.specs.Lists.{Entry, Journal, calls_on, all_asked, asks_stirred, picked}
+use Rattle.book.specs.Lists.{Entry, Journal, calls_on, all_asked}
 use Rattle.book.proofs.Sound.{number, SoundBook}
 use Rattle.book.proofs.Memory.{On, in_step}
 use Rattle.book.proofs.HeadLaws.{opening_passed}
@@ -23,13 +23,13 @@ entry len b c =
       asked = c;
       number = number len b c;
       even = if_zero (number len b c) ((meaning c).even b) 0;
-      stirred = asks_stirred b.rules c && picked (number len b c);
+      stirred = (meaning c).stirs b (number len b c);
     }
 
 noted_entry : (len : ℕ) (h : Head) (t : List ℕ) (b : Book) → On len h t b → SoundBook len b → (c : Call)
     → entry len b c
-    ≡ record { asked = c; number = (call_on h t c).number; even = (call_on h t c).even; stirred = asks_stirred h.rules c && picked (call_on h t c).number }
-noted_entry len h t b on o c = let s = in_step len h t b on o c in rw (s.number_is, s.even_is, on.head_is) refl
+    ≡ record { asked = c; number = (call_on h t c).number; even = (call_on h t c).even; stirred = (call_on h t c).stirred }
+noted_entry len h t b on o c = let s = in_step len h t b on o c in rw (s.number_is, s.even_is, s.stirred_is) refl
 
 -- how a list of calls ends
 pub record Ends (len : ℕ) (R : Book → List Entry → Book → Type 0) (b : Book) (cs : List Call) (r : Journal) : Type 0 where

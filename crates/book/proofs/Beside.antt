@@ -1,19 +1,18 @@
 -- What walks beside the weigh book: a call that a sound book accepts moves both alike, and where a place is free the weigh book gives the call's number, unless
 -- it picks by rule 4, which can want more places than one. Each kind of call has one clause of `walks`.
 -- Assumes nothing.
-use Rattle.std.proofs.Common.{◌≡◌, refl, sym, ap, subst, false, ◌&&◌, eqb, List, ℕ, suc, ◌+◌, ◌-◌, ◌≤◌, arith, length, ◌∙◌}
+use Rattle.std.proofs.Common.{◌≡◌, refl, sym, ap, subst, false, eqb, List, ℕ, suc, ◌+◌, ◌-◌, ◌≤◌, arith, length, ◌∙◌}
 use Rattle.std.proofs.lemmas.Bool.Decides.{nat_tests}
 use Rattle.table.specs.Pieces.{sum, born_at, held}
 use Rattle.taking.proofs.Handed.{handed_births}
 use Rattle.refusal.specs.Numbers.{◌if◌, or_else, first, if_zero}
 use Rattle.refusal.proofs.Numbers.{first_zero}
 use Rattle.book.specs.declared.Motion.{Motion}
-use Rattle.taking.specs.Stirring.{stirred_rule}
-use Rattle.book.specs.Head.{Book, rule_at}
+use Rattle.book.specs.Head.{Book}
 use Rattle.book.specs.Motion.{Standing, of_book, Terms, motion, book_after}
 use Rattle.book.specs.Calls.{Call, terms, enter, set_rule, ask, motion_on, posting_meaning, meaning}
 use Rattle.book.specs.WeighBook.{WeighBook, of_weigh, weighed, weighing, weigh_number, weigh_step, listed}
-use Rattle.book.specs.Lists.{asks_stirred, picked, tips_in}
+use Rattle.book.specs.Lists.{tips_in}
 use Rattle.book.proofs.Sound.{own, number, passed_own, takes_fair, held_after, Proper, proper, of_checks, posted_own, posted_count}
 use Rattle.table.specs.Table.{places_in}
 
@@ -41,7 +40,7 @@ pub record Foretells (len : ℕ) (b : Book) (w : WeighBook) (c : Call) : Type 0 
 
 pub record Walks (len : ℕ) (b : Book) (w : WeighBook) (c : Call) : Type 0 where
   pub accepts : number len b c ≡ 0 → Accepts b w c
-  pub foretells : asks_stirred b.rules c && picked (number len b c) ≡ false → length b.pieces + (meaning c).counts ≤ places_in len → (1 ≤ tips_in c → 1 ≤ places_in len)
+  pub foretells : (meaning c).stirs b (number len b c) ≡ false → length b.pieces + (meaning c).counts ≤ places_in len → (1 ≤ tips_in c → 1 ≤ places_in len)
       → Foretells len b w c
 
 -- A motion moves both alike.
@@ -67,7 +66,7 @@ module _ (p : Terms) (ok : Proper p) (len : ℕ) (b : Book) (w : WeighBook) (r :
   posted_beside = subst (λ (g : Standing). Beside (book_after b (motion_on p b)) (weighed w (motion p g))) (standing b w r) (motion_beside b (motion_on p b) w r)
 
   free_number : let n = or_else (1 if eqb (places_in len) 0) (own len b (posting_meaning p)) in
-      eqb (rule_at b.rules p.source) stirred_rule && picked n ≡ false → length b.pieces + p.counts ≤ places_in len → (1 ≤ 1 - p.counts → 1 ≤ places_in len)
+      (posting_meaning p).stirs b n ≡ false → length b.pieces + p.counts ≤ places_in len → (1 ≤ 1 - p.counts → 1 ≤ places_in len)
       → n ≡ of_checks p ok len b
   free_number u h k = let one = ok.once in grind (arith, nat_tests, posted_own p ok len b, posted_count p ok len b)
 

@@ -14,7 +14,7 @@ use Rattle.book.specs.Motion.{Standing}
 use Rattle.book.specs.Transfer.{transfer_of, transfer_checks}
 use Rattle.book.specs.Scale.{lift_of, tip_of, lift_checks, tip_checks}
 use Rattle.book.specs.Setting.{setting_of, setting_checks}
-use Rattle.book.specs.Reports.{report_checks}
+use Rattle.book.specs.Reports.{asked_checks}
 use Rattle.book.specs.Calls.{post, lift, tip, set_rule, ask}
 use Rattle.book.specs.Memory.{book_checks, number_of}
 use Rattle.book.specs.Lists.{tips}
@@ -59,7 +59,7 @@ lower scale d t = first (tip_checks the_scale (stand scale TOP) (tip_of d t))
 
 -- the number of a report on three vessels, with so much room
 abbrev report : Report → ℕ → ℕ
-report q room = first (report_checks 3 room q)
+report q room = first (asked_checks 3 room q)
 
 abbrev ◌gives◌ : ℕ → ℕ → Edge
 n gives m = record { found = n; wanted = m }
@@ -222,7 +222,7 @@ edges =
     ∷ []
 
 pub at_the_edge : map (λ e. e.found) edges ≡ map (λ e. e.wanted) edges
-unfolding edges opening book_checks adds_up rules_fit all_zero every same balances_of tab places_in pieces_of transfer_checks lift_checks tip_checks setting_checks report_checks
+unfolding edges opening book_checks adds_up rules_fit all_zero every same balances_of tab places_in pieces_of transfer_checks lift_checks tip_checks setting_checks asked_checks
 at_the_edge = refl
 
 -- The number of a report on the fresh book of three vessels is that of its own checks.
@@ -231,8 +231,8 @@ unfolding number_of book_checks adds_up rules_fit all_zero every same balances_o
 fresh_report q room = refl
 
 -- However far off the vessel of a held report or the origin of a spread one is, it is 5, and before all else.
-pub no_vessel : (size v from to room : ℕ) → size ≤ v → (first (report_checks size room (Held v)) ≡ 5) × (first (report_checks size room (Spread v from to)) ≡ 5)
-unfolding report_checks
+pub no_vessel : (size v from to room : ℕ) → size ≤ v → (first (asked_checks size room (Held v)) ≡ 5) × (first (asked_checks size room (Spread v from to)) ≡ 5)
+unfolding asked_checks
 no_vessel size v from to room h = grind (arith, nat_tests)
 
 -- Opening gives every vessel of the book its rule, and no other.

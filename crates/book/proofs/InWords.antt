@@ -34,6 +34,7 @@ use Rattle.book.proofs.RuleLaws.{set_at, set_others}
 use Rattle.book.proofs.Checks.{Fit, LiftFit, setting_fit}
 use Rattle.book.proofs.Memory.{call_number, refused_on, on_number, passed_book, book_passed}
 use Rattle.book.proofs.Known.{AddsUp, adds_up_told, adds_head}
+use Rattle.book.proofs.ReportLaws.{all_pass}
 
 abbrev pub moved_answer : Moved → Answer
 moved_answer r = record no_answer { whole = r.whole; split = r.split; born = r.missing }
@@ -90,7 +91,7 @@ module _ (h : Head) (t : List ℕ) where
   pub report_in_words : (q : Report) (room : List ℕ) → (call_on h t (ask q room)).number ≡ 0
       → let w = report_row h.vessels ps q in (take (length w) (call_on h t (ask q room)).room ≡ w) × (drop (length w) (call_on h t (ask q room)).room ≡ drop (length w) room)
   unfolding call_on
-  report_in_words q room z = let e = sym (call_number h t (ask q room)) ∙ z in rw e (take_at (report_row h.vessels ps q) _ _ refl, drop_at (report_row h.vessels ps q) _ _ refl)
+  report_in_words q room z = let e = sym (call_number h t (ask q room)) ∙ z in rw (e, all_pass ps) (take_at (report_row h.vessels ps q) _ _ refl, drop_at (report_row h.vessels ps q) _ _ refl)
 
   -- "A refusal returns its number with all other answer numbers 0 and the head as given; no lent memory changes", the room of a report neither.
   pub refused_in_words : (c : Call) → ((call_on h t c).number ≡ 0 → ⊥) → ((call_on h t c).answer ≡ ((meaning c).refused (call_on h t c).number (length t) (book_of h t)).answer) × ((call_on h t c).head ≡ h) × ((call_on h t c).table ≡ t)

@@ -1,7 +1,7 @@
 -- Demand 3: one claim about a whole list of calls, on the head of an accepted opening and a table of any length and content.
 -- By induction over the list, with the book that head and table hold and the weigh book beside it.
 -- Assumes nothing.
-use Rattle.std.proofs.Common.{◌≡◌, refl, ap, Bool, false, ◌&&◌, List, [], ◌∷◌, ℕ, zero, suc, ◌+◌, ◌≤◌, arith, length, ◌∙◌}
+use Rattle.std.proofs.Common.{◌≡◌, refl, ap, false, List, [], ◌∷◌, ℕ, zero, suc, ◌+◌, ◌≤◌, arith, length, ◌∙◌}
 use Rattle.table.specs.Table.{places_of, places_in}
 use Rattle.book.specs.Head.{Book, opened, opening}
 use Rattle.book.specs.Calls.{Call, meaning}
@@ -9,7 +9,7 @@ use Rattle.book.specs.WeighBook.{WeighBook, weighing, blank, feed, forecast}
 use Rattle.book.specs.Lists.{Entry, Journal, calls_on, all_asked, answered, follow, transfers, tips, evens, numbers, stirs, Demand3}
 use Rattle.book.proofs.Sound.{number, SoundBook, keeps, count_kept}
 use Rattle.book.proofs.Beside.{Beside, Walks, walks}
-use Rattle.book.proofs.Memory.{On, back, adds}
+use Rattle.book.proofs.Memory.{back, adds}
 use Rattle.book.proofs.Along.{step, entry, Ends, from_opening}
 
 -- What holds of a journal, from the book b and the weigh book w on.

@@ -29,16 +29,15 @@ use Rattle.book.specs.Motion.{of_book, takes}
 use Rattle.book.specs.Transfer.{transfer_of, transfer_checks, motion_of}
 use Rattle.book.specs.Scale.{lift_of, tip_of, lift_checks, tip_checks}
 use Rattle.book.specs.Setting.{setting_checks}
-use Rattle.book.specs.Reports.{rows, report_row, report_checks, onto}
+use Rattle.book.specs.Reports.{rows, report_row, asked_checks, onto}
 use Rattle.book.specs.Calls.{Posting, Call, enter, terms, motion_on, post, lift, tip, set_rule, ask, meaning}
 use Rattle.book.specs.Memory.{Outcome, number_of, book_checks, call_on}
 use Rattle.book.specs.Lists.{calls_on, tips_in, tips}
 use Rattle.book.proofs.Sound.{takes_fair, held_after, proper, posted_own}
 use Rattle.book.proofs.Memory.{call_number, accepted_on, refused_memory, on_number, number_split, number_same, book_passed, back, in_step}
 use Rattle.book.proofs.Known.{adds_up_told, adds_sound, adds_on}
-use Rattle.book.proofs.InWords.{passed_own, accepted_book, post_fit, fit_lift, tip_in_words}
-use Rattle.book.proofs.ReportLaws.{row_unloaded}
-use Rattle.book.proofs.Scale.{post_scale}
+use Rattle.book.proofs.InWords.{passed_own, accepted_book, post_fit, tip_in_words}
+use Rattle.book.proofs.ReportLaws.{row_unloaded, all_pass}
 use Rattle.book.proofs.Cases.{Case, called, seen, pieces, answers}
 
 -- what is on the scale, in the order it lies
@@ -61,7 +60,7 @@ module _ (h : Head) (t : List ℕ) where
 
   pub lift_alone : (x : Transfer) (y : Tip) (s : Setting) (q : Report) (room : List ℕ)
       → (number_of h t (post x) ≢ 22) × (number_of h t (tip y) ≢ 22) × (number_of h t (set_rule s) ≢ 22) × (number_of h t (ask q room) ≢ 22)
-  unfolding book_checks transfer_checks tip_checks setting_checks report_checks
+  unfolding book_checks transfer_checks tip_checks setting_checks asked_checks
   lift_alone x y s q room = grind (arith, number_split h t (post x), number_split h t (tip y), number_split h t (set_rule s), number_split h t (ask q room))
 
   -- What is on the scale stays there, whatever is called but a tip.
@@ -166,7 +165,7 @@ report_unloaded h t q room z =
     let e = sym (call_number h t (ask q room)) ∙ z in
     let few = (accepted_book h t (ask q room) e).vessels_fit in
     let own = passed_own h t (ask q room) e in
-    ap (λ (o : Outcome). o.room) (accepted_on h t (ask q room) e) ∙ ap (λ (w : List ℕ). onto w room) (sym (row_unloaded h.vessels few (pieces_of h.pieces t) (length room) q own))
+    ap (λ (o : Outcome). o.room) (accepted_on h t (ask q room) e) ∙ ap (λ (w : List ℕ). onto w room) (ap (λ (ps : List Piece). report_row h.vessels ps q) (all_pass (pieces_of h.pieces t)) ∙ sym (row_unloaded h.vessels few (pieces_of h.pieces t) (length room) q own))
 
 -- a book of three vessels under a rule: two pieces on the scale, each with a piece of another behind it
 abbrev laden : ℕ → Head
@@ -199,7 +198,7 @@ all_vessels = record { rule = 0; vessels = 64; pieces = 1; last = 5; accepted = 
 
 pub left_out : (map reported (Held 0 ∷ Spread 2 0 9 ∷ Whole ∷ []) ≡ vessels_only)
     × ((call_on all_vessels (64 ∷ 63 ∷ 5 ∷ 7 ∷ []) (ask (Spread 63 0 9) (replicate 65 7))).room ≡ replicate 64 0 ++ (7 ∷ []))
-unfolding call_on number_of book_checks adds_up rules_fit all_zero every same balances_of tab places_in pieces_of flat report_checks rows
+unfolding call_on number_of book_checks adds_up rules_fit all_zero every same balances_of tab places_in pieces_of flat asked_checks rows
 left_out = (refl, refl)
 
 -- What waits on the scale: part of two lots of vessel 0, which gives and receives meanwhile, gets it back behind what it received, and gives by that.
@@ -230,5 +229,5 @@ cases =
     ∷ []
 
 pub waited : map seen cases ≡ map (λ c. c.wanted) cases
-unfolding cases calls_on call_on number_of book_checks adds_up rules_fit all_zero every same balances_of tab places_in pieces_of flat opening transfer_checks lift_checks tip_checks takes taken take_up_to precedes report_checks rows
+unfolding cases calls_on call_on number_of book_checks adds_up rules_fit all_zero every same balances_of tab places_in pieces_of flat opening transfer_checks lift_checks tip_checks takes taken take_up_to precedes asked_checks rows
 waited = refl

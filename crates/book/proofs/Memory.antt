@@ -43,7 +43,7 @@ answer_told o = (refl, refl)
 -- a refused call gives back the head and leaves the table as it was, and tells what it means
 pub refused_on : (h : Head) (t : List ℕ) (c : Call) (n : ℕ) → number_of h t c ≡ n → (n ≡ 0 → ⊥)
     → let r = (meaning c).refused n (length t) (book_of h t) in
-    call_on h t c ≡ record { number = n; answer = r.answer; head = h; table = t; room = r.room; even = 0 }
+    call_on h t c ≡ record { number = n; answer = r.answer; head = h; table = t; room = r.room; even = 0; stirred = (meaning c).stirs (book_of h t) n }
 unfolding call_on
 refused_on h t c n e nz = grind arith
 
@@ -100,6 +100,7 @@ module _ (len : ℕ) (h : Head) (t : List ℕ) (b : Book) (on : On len h t b) (o
   pub record InStep (c : Call) (n : ℕ) : Type 0 where
     pub number_is : (call_on h t c).number ≡ n
     pub even_is : (call_on h t c).even ≡ if_zero n ((meaning c).even b) 0
+    pub stirred_is : (call_on h t c).stirred ≡ (meaning c).stirs b n
     pub holds : On len (call_on h t c).head (call_on h t c).table (if_zero n ((meaning c).next b) b)
     pub sound : SoundBook len (if_zero n ((meaning c).next b) b)
 

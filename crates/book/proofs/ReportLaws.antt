@@ -17,9 +17,11 @@ use Rattle.book.specs.declared.Head.{Head}
 use Rattle.book.specs.declared.Report.{Report}
 use Rattle.book.specs.declared.Report.TheVariants.{Held, Spread, Whole}
 use Rattle.book.specs.Head.{most_vessels, the_scale, balance_at, tab, adds_up}
-use Rattle.book.specs.Reports.{from_origin, held_row, born_within, rows, report_row, report_checks}
+use Rattle.book.specs.Reports.{from_origin, held_row, born_within, rows, report_row, asked_checks}
 use Rattle.book.proofs.BalanceLaws.{length_tab, get_d_tab, tab_same}
 use Rattle.book.proofs.Known.{adds_up_told, adds_balance}
+use Rattle.std.specs.List.{filter}
+use Rattle.book.specs.Calls.{every_piece}
 
 -- a number of a row
 pub row_at : (f : ℕ → ℕ) (n j : ℕ) → j < n → get_or (tab f 0 n) j 0 ≡ f j
@@ -124,23 +126,28 @@ module _ (size : ℕ) (few : size ≤ most_vessels) (ps : List Piece) where
   rows_unloaded v zero h = refl
   rows_unloaded v (suc n) h = rw (held_unloaded v (omega arith), rows_unloaded (suc v) n (omega arith)) refl
 
-  pub row_unloaded : (room : ℕ) (q : Report) → first (report_checks size room q) ≡ 0 → report_row size (elsewhere the_scale ps) q ≡ report_row size ps q
-  unfolding report_checks
+  pub row_unloaded : (room : ℕ) (q : Report) → first (asked_checks size room q) ≡ 0 → report_row size (elsewhere the_scale ps) q ≡ report_row size ps q
+  unfolding asked_checks
   row_unloaded room (Held v) e = held_unloaded v (grind (arith, nat_tests))
   row_unloaded room (Spread u from to) e =
       tab_same _ _ 0 0 size (λ v g. sum_elsewhere the_scale (born_within u from to (0 + v)) (λ o b. grind (arith, nat_tests)) ps)
   row_unloaded room Whole e = rows_unloaded 0 size (omega arith)
 
+-- A test that every piece passes lets all through.
+pub all_pass : (ps : List Piece) → filter every_piece ps ≡ ps
+all_pass [] = refl
+all_pass (p ∷ ps) = ap (λ qs. p ∷ qs) (all_pass ps)
+
 -- the room is long enough where the checks pass
 module _ (size room : ℕ) (asked : Report) where
-  pub held_room : (v : ℕ) → asked ≡ Held v → first (report_checks size room asked) ≡ 0 → size ≤ room
-  unfolding report_checks
+  pub held_room : (v : ℕ) → asked ≡ Held v → first (asked_checks size room asked) ≡ 0 → size ≤ room
+  unfolding asked_checks
   held_room v a e = let k = rw a at e in grind (arith, nat_tests)
 
-  pub spread_room : (u from to : ℕ) → asked ≡ Spread u from to → first (report_checks size room asked) ≡ 0 → size ≤ room
-  unfolding report_checks
+  pub spread_room : (u from to : ℕ) → asked ≡ Spread u from to → first (asked_checks size room asked) ≡ 0 → size ≤ room
+  unfolding asked_checks
   spread_room u from to a e = let k = rw a at e in grind (arith, nat_tests)
 
-  pub whole_room : asked ≡ Whole → first (report_checks size room asked) ≡ 0 → size * size ≤ room
-  unfolding report_checks
+  pub whole_room : asked ≡ Whole → first (asked_checks size room asked) ≡ 0 → size * size ≤ room
+  unfolding asked_checks
   whole_room a e = let k = rw a at e in grind (arith, nat_tests)

@@ -3,7 +3,7 @@
 -- for transfer, lift and tip, over whatever rule their source has; each kind of call has one clause of `keeps`. The count of pieces goes on as document 01
 -- says where the pick is by one of the four first rules, which give at most one piece more (`count_kept`).
 -- Assumes nothing.
-use Rattle.std.proofs.Common.{◌≡◌, ◌⊎◌, refl, sym, ◌↔◌, ◌≢◌, true, false, List, [], ◌∷◌, ◌++◌, ℕ, zero, suc, ◌+◌, ◌-◌, ◌*◌, ◌≤◌, ◌<◌, min, arith, T, ltb, eqb, length, drop, length-append, length-drop, ◌∙◌}
+use Rattle.std.proofs.Common.{◌≡◌, ◌⊎◌, refl, ◌↔◌, ◌≢◌, true, false, List, ◌++◌, ℕ, zero, suc, ◌+◌, ◌-◌, ◌*◌, ◌≤◌, ◌<◌, min, arith, T, ltb, eqb, length, drop, length-append, length-drop, ◌∙◌}
 use Rattle.std.proofs.lemmas.Bool.Decides.{nat_tests}
 use borrow.Author.Tests.{eqb-false}
 use Rattle.table.specs.declared.Piece.{Piece}
@@ -14,7 +14,7 @@ use Rattle.taking.specs.Stirring.{stirred_rule}
 use Rattle.taking.proofs.Taking.{Fair, singly_law}
 use Rattle.taking.proofs.Stirring.{taken_fair, taken_singly, none_split}
 use Rattle.taking.proofs.Handed.{handed_length, handed_held, handed_all}
-use Rattle.refusal.specs.Numbers.{TOP, Check, ◌if◌, or_else, first, if_zero}
+use Rattle.refusal.specs.Numbers.{TOP, ◌if◌, or_else, first, if_zero}
 use Rattle.refusal.proofs.Numbers.{named, first_append}
 use Rattle.book.specs.declared.Motion.{Motion}
 use Rattle.book.specs.Head.{Book, the_scale, last_rule, most_vessels, is_holder, rule_at, rules_fit}
@@ -22,7 +22,6 @@ use Rattle.book.specs.Motion.{Standing, of_book, Terms, takes, pieces_after, boo
 use Rattle.book.specs.Transfer.{transfer_checks}
 use Rattle.book.specs.Scale.{lift_checks, tip_checks}
 use Rattle.book.specs.Calls.{Posting, by_transfer, by_lift, by_tip, terms, Call, enter, set_rule, ask, answer_of, even_of, Meaning, place_checks, motion_on, posting_meaning, meaning}
-use Rattle.book.specs.Lists.{asks_stirred}
 use Rattle.book.proofs.RuleLaws.{set_fit}
 use Rattle.book.proofs.Checks.{fit, lift_fit, tip_fit, setting_fit}
 
@@ -205,7 +204,7 @@ keeps len b (set_rule s) o e =
     }
 
 -- The count of pieces goes on as that of transfers does, but for the even ones, where the pick is by one of the four first rules.
-pub count_kept : (len : ℕ) (b : Book) (c : Call) → asks_stirred b.rules c ≡ false
+pub count_kept : (len : ℕ) (b : Book) (c : Call) → (meaning c).stirs b 0 ≡ false
     → length ((meaning c).next b).pieces + (meaning c).even b ≡ length b.pieces + (meaning c).counts
-count_kept len b (enter p) u = posted_count (terms p) (proper p) len b (eqb-false _ _ u)
+count_kept len b (enter p) u = posted_count (terms p) (proper p) len b (eqb-false _ _ (grind arith))
 count_kept len b c u = omega arith

@@ -17,7 +17,7 @@ use Rattle.book.specs.Scale.{lift_of, tip_of, lift_checks, tip_checks}
 use Rattle.book.specs.Setting.{setting_checks}
 use Rattle.book.specs.Calls.{Call, lift, tip, ask}
 use Rattle.book.specs.Memory.{number_of, book_checks, call_on}
-use Rattle.book.specs.Reports.{report_checks, rows}
+use Rattle.book.specs.Reports.{asked_checks, rows}
 use Rattle.book.specs.Lists.{Journal, calls_on, stirs, sets_none}
 use Rattle.book.proofs.Cases.{Case, called, lent, seen, pieces, answers}
 use Rattle.book.proofs.Mixed.{give, set_to}
@@ -102,7 +102,7 @@ full_table = even_lots ++ (give 1 2 4 1 0 ∷ [])
 
 pub stirred_lists : map used (unpicked ∷ (lots ++ (give 0 1 5 1 0 ∷ [])) ∷ (lots ++ (lift (lift_of 0 5 1 0) ∷ [])) ∷ (full_table ++ (give 0 1 5 10 0 ∷ [])) ∷ (full_table ++ (lift (lift_of 0 5 10 0) ∷ [])) ∷ (full_table ++ (set_to 0 0 ∷ give 0 1 5 10 0 ∷ [])) ∷ [])
     ≡ false ∷ true ∷ true ∷ true ∷ true ∷ false ∷ []
-unfolding calls_on call_on number_of book_checks adds_up rules_fit all_zero every same balances_of tab places_in pieces_of flat opening transfer_checks lift_checks tip_checks setting_checks report_checks rows takes taken take_up_to precedes giving shares up_to
+unfolding calls_on call_on number_of book_checks adds_up rules_fit all_zero every same balances_of tab places_in pieces_of flat opening transfer_checks lift_checks tip_checks setting_checks asked_checks rows takes taken take_up_to precedes giving shares up_to
 stirred_lists = refl
 
 pub setting_lists : map sets_none (unpicked ∷ (set_to 0 3 ∷ set_to 1 4 ∷ []) ∷ (set_to 0 3 ∷ set_to 1 5 ∷ give 0 1 5 4 0 ∷ lift (lift_of 0 4 4 4) ∷ tip (tip_of 4 4) ∷ ask Whole [] ∷ []) ∷ []) ≡ false ∷ false ∷ true ∷ []

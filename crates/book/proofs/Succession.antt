@@ -163,11 +163,11 @@ pub beside_the_load : (h : Head) (t : List ℕ) (x : Transfer) (scale : ℕ) →
     let up = posting_meaning (lift_terms scale (lift_part x)) in
     let down = posting_meaning (tip_terms scale (tip_part x)) in
     call_on h t (post x)
-    ≡ record { number = 0; answer = (up.told now).answer; head = head_of (down.next (up.next now)); table = down.table (up.next now) (up.table now t); room = []; even = up.even now }
+    ≡ record { number = 0; answer = (up.told now).answer; head = head_of (down.next (up.next now)); table = down.table (up.next now) (up.table now t); room = []; even = up.even now; stirred = up.stirs now 0 }
 beside_the_load h t x scale beyond empty w =
     let z = sym (call_number h t (post x)) ∙ w in
     let e = passed_book h t (post x) z in
     let c = second_scale scale (length t) (book_of h t) (sound h t x e) beyond empty x in
     let p = sym (number_is h t x e (post x)) ∙ w in
     accepted_on h t (post x) z
-    ∙ sym (λ i. record { number = 0; answer = c.same_answer.0 i; head = head_of (c.same_book p i); table = c.same_table p t i; room = []; even = c.same_answer.1 i })
+    ∙ sym (λ i. record { number = 0; answer = c.same_answer.0 i; head = head_of (c.same_book p i); table = c.same_table p t i; room = []; even = c.same_answer.1 i; stirred = (posting_meaning (lift_terms scale (lift_part x))).stirs (book_of h t) 0 })

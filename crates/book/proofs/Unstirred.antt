@@ -8,16 +8,16 @@ use Rattle.book.specs.declared.Head.{Head}
 use Rattle.book.specs.Head.{Book, opened, opening}
 use Rattle.book.specs.Calls.{Call, enter, set_rule, terms, meaning}
 use Rattle.book.specs.Memory.{call_on}
-use Rattle.book.specs.Lists.{Entry, calls_on, answered, asks_stirred, stirs, sets_stirred, sets_none}
+use Rattle.book.specs.Lists.{Entry, calls_on, answered, stirs, sets_stirred, sets_none}
 use Rattle.book.proofs.RuleLaws.{Unstirred, given_unstirred, set_unstirred}
 use Rattle.book.proofs.Sound.{number, SoundBook}
 use Rattle.book.proofs.Along.{step, entry, from_opening}
 use Rattle.book.proofs.HeadLaws.{opening_passed, openable}
 
--- where no vessel has the rule, no call asks for it
-pub asks_none : (rules : List ℕ) → Unstirred rules → (c : Call) → asks_stirred rules c ≡ false
-asks_none rules none (enter p) = ne_eqb _ _ (none (terms p).source)
-asks_none rules none c = refl
+-- where no vessel has the rule, no call makes a pick under it
+pub asks_none : (b : Book) → Unstirred b.rules → (c : Call) (n : ℕ) → (meaning c).stirs b n ≡ false
+asks_none b none (enter p) n = rw (ne_eqb _ _ (none (terms p).source)) refl
+asks_none b none c n = refl
 
 -- an accepted call that sets none leaves none
 still_unstirred : (b : Book) (c : Call) → sets_stirred c ≡ false → Unstirred b.rules → Unstirred ((meaning c).next b).rules
@@ -29,7 +29,7 @@ module _ (len : ℕ) where
   Unused b es z = Unstirred b.rules → sets_none (answered es) ≡ true → stirs es ≡ false
 
   more : (b : Book) (c : Call) (es : List Entry) (z : Book) → SoundBook len b → Unused (step len b c) es z → Unused b (entry len b c ∷ es) z
-  more b c es z o rest none e = rw (asks_none b.rules none c) (go (number len b c) refl)
+  more b c es z o rest none e = rw (asks_none b none c (number len b c)) (go (number len b c) refl)
     where
       go : (n : ℕ) → number len b c ≡ n → stirs es ≡ false
       go zero q = let r = rw q at e in let next : Unused ((meaning c).next b) es z = rw q at rest in next (still_unstirred b c (grind arith) none) (grind arith)

@@ -1,9 +1,10 @@
 -- Calls on a book. A call is data, so that a list of calls is a list, and all that document 01 says of a call is one clause of `meaning`.
 -- Definitions only. Assumes nothing.
-use Rattle.std.specs.Prelude.{List, [], ◌∷◌, ◌++◌, ℕ, zero, suc, ◌+◌, ltb, length}
+use Rattle.std.specs.Prelude.{Bool, true, false, ◌&&◌, ◌||◌, ◌==◌, List, [], ◌∷◌, ◌++◌, filter, ℕ, zero, suc, ◌+◌, ltb, length}
 use Rattle.table.specs.declared.Piece.{Piece}
 use Rattle.table.specs.Table.{lay, places_in}
 use Rattle.taking.specs.Taken.{Taken}
+use Rattle.taking.specs.Stirring.{stirred_rule}
 use Rattle.refusal.specs.Numbers.{Check, ◌if◌, if_zero}
 use Rattle.book.specs.declared.Transfer.{Transfer}
 use Rattle.book.specs.declared.Lift.{Lift}
@@ -11,12 +12,13 @@ use Rattle.book.specs.declared.Tip.{Tip}
 use Rattle.book.specs.declared.Setting.{Setting}
 use Rattle.book.specs.declared.Motion.{Motion}
 use Rattle.book.specs.declared.Report.{Report}
-use Rattle.book.specs.Head.{Book, the_scale}
+use Rattle.book.specs.Head.{Book, the_scale, rule_at}
 use Rattle.book.specs.Motion.{of_book, Terms, motion, takes, pieces_after, book_after}
 use Rattle.book.specs.Transfer.{transfer_terms}
 use Rattle.book.specs.Scale.{lift_terms, tip_terms}
 use Rattle.book.specs.Setting.{setting_checks, with_rule}
 use Rattle.book.specs.Reports.{report_row, report_checks, onto}
+use Rattle.std.specs.List.{filter}
 
 -- What can be posted, and its terms.
 pub data Posting : Type 0 where
@@ -85,6 +87,12 @@ pub record Meaning : Type 0 where
   -- how often it counts as a transfer, and how often as an even one where it is accepted
   pub counts : ℕ
   pub even : Book → ℕ
+  -- whether, with this number, it made a pick under rule 4
+  pub stirs : Book → ℕ → Bool
+
+-- Whether a number says that pieces were picked: the call passed all its checks, or all but 11.
+abbrev pub picks : ℕ → Bool
+picks number = number == 0 || number == 11
 
 -- A call that moves nothing and counts for nothing: by its checks, what it tells, and the room that it is lent.
 abbrev pub unmoved : (ℕ → Book → List Check) → (Book → Told) → List ℕ → Meaning
@@ -97,6 +105,7 @@ unmoved checks told lent =
       refused = λ n len b. silence lent;
       counts = 0;
       even = λ b. 0;
+      stirs = λ b n. false;
     }
 
 -- "Number 11 comes when the pieces afterwards would exceed the places." (By the four first rules that is "split or birth due, pieces = places": `table_full`.)
@@ -119,13 +128,21 @@ posting_meaning p =
       refused = λ n len b. silence [];
       counts = p.counts;
       even = λ b. if_zero p.counts 0 (even_of (answer_of (takes b (motion_on p b))));
+      stirs = λ b n. rule_at b.rules p.source == stirred_rule && picks n;
     }
+
+-- A report counts the pieces that a test lets through, on a book and with the room that it is lent. What is asked of a book counts every piece.
+abbrev pub report_meaning : (Piece → Bool) → Report → List ℕ → Meaning
+report_meaning test q room =
+    unmoved
+    (λ len b. report_checks b (length room) q)
+    (λ b. silence (onto (report_row b.vessels (filter test b.pieces) q) room))
+    room
+
+abbrev pub every_piece : Piece → Bool
+every_piece p = true
 
 abbrev pub meaning : Call → Meaning
 meaning (enter p) = posting_meaning (terms p)
 meaning (set_rule s) = record (unmoved (λ len b. setting_checks b.vessels s) (λ b. silence []) []) { next = λ b. with_rule b s }
-meaning (ask q room) =
-    unmoved
-    (λ len b. report_checks b.vessels (length room) q)
-    (λ b. silence (onto (report_row b.vessels b.pieces q) room))
-    room
+meaning (ask q room) = report_meaning every_piece q room

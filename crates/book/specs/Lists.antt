@@ -1,13 +1,13 @@
 -- Lists of calls, and demand 3: "Each call gets the head that the last one returned and the table as that one left it."
 -- Definitions only. Assumes nothing.
-use Rattle.std.specs.Prelude.{◌≡◌, Bool, true, false, not, ◌&&◌, ◌||◌, cond, List, [], ◌∷◌, ℕ, ◌+◌, ◌-◌, ◌≤◌, eqb, length}
+use Rattle.std.specs.Prelude.{◌≡◌, Bool, true, false, not, ◌||◌, cond, List, [], ◌∷◌, ℕ, ◌+◌, ◌-◌, ◌≤◌, eqb, length}
 use Rattle.std.specs.List.{list_all}
 use Rattle.table.specs.Pieces.{sum, born_at, held}
 use Rattle.table.specs.Table.{places_of}
 use Rattle.taking.specs.Stirring.{stirred_rule}
 use Rattle.refusal.specs.Numbers.{if_zero}
 use Rattle.book.specs.declared.Head.{Head}
-use Rattle.book.specs.Head.{Book, rule_at, book_of, adds_up, opening, opened}
+use Rattle.book.specs.Head.{Book, book_of, adds_up, opened}
 use Rattle.book.specs.Calls.{Call, enter, set_rule, terms, meaning}
 use Rattle.book.specs.Memory.{Outcome, call_on}
 use Rattle.book.specs.WeighBook.{blank, feed, listed, forecast}
@@ -25,26 +25,17 @@ pub record Journal : Type 0 where
   pub head : Head
   pub table : List ℕ
 
--- "Lists that never use rule 4": no pick is made under it. Whether a call asks for one, where the vessels have these rules, and whether its number says that it
--- made a pick, past all its checks but 11.
-abbrev pub asks_stirred : List ℕ → Call → Bool
-asks_stirred rules (enter p) = eqb (rule_at rules (terms p).source) stirred_rule
-asks_stirred rules c = false
-
-abbrev pub picked : ℕ → Bool
-picked number = eqb number 0 || eqb number 11
-
-abbrev pub noted : Head → Call → Outcome → Journal → Journal
-noted h c o r =
+abbrev pub noted : Call → Outcome → Journal → Journal
+noted c o r =
     record {
-      log = record { asked = c; number = o.number; even = o.even; stirred = asks_stirred h.rules c && picked o.number } ∷ r.log;
+      log = record { asked = c; number = o.number; even = o.even; stirred = o.stirred } ∷ r.log;
       head = r.head;
       table = r.table;
     }
 
 unfoldable pub calls_on : Head → List ℕ → List Call → Journal
 calls_on h t [] = record { log = []; head = h; table = t }
-calls_on h t (c ∷ cs) = let o = call_on h t c in noted h c o (calls_on o.head o.table cs)
+calls_on h t (c ∷ cs) = let o = call_on h t c in noted c o (calls_on o.head o.table cs)
 
 -- the calls, and those answered 0
 abbrev pub all_asked : List Entry → List Call

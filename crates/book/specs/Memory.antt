@@ -2,15 +2,15 @@
 -- number of the table and of the room afterwards. "A refusal returns its number with all other answer numbers 0 and the head as
 -- given; no lent memory changes."
 -- Definitions only. Assumes nothing.
-use Rattle.std.specs.Prelude.{not, List, [], ◌∷◌, ◌++◌, ℕ, zero, suc, ltb, length}
+use Rattle.std.specs.Prelude.{Bool, not, List, [], ◌∷◌, ◌++◌, ℕ, zero, suc, ltb, length}
 use Rattle.refusal.specs.Numbers.{Check, ◌if◌, first}
 use Rattle.book.specs.declared.Head.{Head}
 use Rattle.book.specs.declared.Transferred.{Transferred}
 use Rattle.book.specs.declared.Reply.{Reply}
 use Rattle.book.specs.Head.{head_of, book_of, adds_up}
-use Rattle.book.specs.Calls.{Call, Answer, Told, Meaning, meaning}
+use Rattle.book.specs.Calls.{Call, Answer, Meaning, meaning}
 
--- All that a call gives back and leaves, and how often it was an even transfer.
+-- All that a call gives back and leaves, how often it was an even transfer, and whether it made a pick under rule 4.
 pub record Outcome : Type 0 where
   pub number : ℕ
   pub answer : Answer
@@ -18,6 +18,7 @@ pub record Outcome : Type 0 where
   pub table : List ℕ
   pub room : List ℕ
   pub even : ℕ
+  pub stirred : Bool
 
 -- "a transfer 1, 4, then 5 to 11 (21 straight after 8); reports 1, 4, 5, 12, 13. The first that applies is given." 22, a lift's, and 23, a tip's, come after 4;
 -- the setting of a rule "checks 1, 4, 5, 2".
@@ -31,10 +32,10 @@ number_of h t c = first (book_checks h t ++ (meaning c).checks (length t) (book_
 abbrev pub outcome : Head → List ℕ → Meaning → ℕ → Outcome
 outcome h t m zero =
     let b = book_of h t in
-    record { number = 0; answer = (m.told b).answer; head = head_of (m.next b); table = m.table b t; room = (m.told b).room; even = m.even b }
+    record { number = 0; answer = (m.told b).answer; head = head_of (m.next b); table = m.table b t; room = (m.told b).room; even = m.even b; stirred = m.stirs b 0 }
 outcome h t m (suc n) =
     let r = m.refused (suc n) (length t) (book_of h t) in
-    record { number = suc n; answer = r.answer; head = h; table = t; room = r.room; even = 0 }
+    record { number = suc n; answer = r.answer; head = h; table = t; room = r.room; even = 0; stirred = m.stirs (book_of h t) (suc n) }
 
 -- a call on a head and a table
 unfoldable pub call_on : Head → List ℕ → Call → Outcome

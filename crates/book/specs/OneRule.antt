@@ -54,4 +54,4 @@ one_rule_on h t c = outcome h t (one_rule c) (one_rule_number h t c)
 -- and a list of calls
 unfoldable pub one_rule_calls : Head → List ℕ → List Call → Journal
 one_rule_calls h t [] = record { log = []; head = h; table = t }
-one_rule_calls h t (c ∷ cs) = let o = one_rule_on h t c in noted h c o (one_rule_calls o.head o.table cs)
+one_rule_calls h t (c ∷ cs) = let o = one_rule_on h t c in noted c o (one_rule_calls o.head o.table cs)

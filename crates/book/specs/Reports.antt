@@ -7,7 +7,7 @@ use Rattle.table.specs.Pieces.{Kind, sum}
 use Rattle.refusal.specs.Numbers.{Check, ◌if◌}
 use Rattle.book.specs.declared.Report.{Report}
 use Rattle.book.specs.declared.Report.TheVariants.{Held, Spread, Whole}
-use Rattle.book.specs.Head.{tab}
+use Rattle.book.specs.Head.{Book, tab}
 
 -- "Held: vessel v, V numbers, the weight by origin in v."
 abbrev pub from_origin : ℕ → ℕ → Kind
@@ -35,11 +35,14 @@ report_row size ps (Held v) = held_row size v ps
 report_row size ps (Spread u from to) = spread_row size u from to ps
 report_row size ps Whole = rows size 0 size ps
 
--- checks 5, 12, 13, as they apply: of the number of vessels and the length of the room
-unfoldable pub report_checks : ℕ → ℕ → Report → List Check
-report_checks size room (Held v) = 5 if leb size v ∷ 13 if ltb room size ∷ []
-report_checks size room (Spread u from to) = 5 if leb size u ∷ 12 if ltb to from ∷ 13 if ltb room size ∷ []
-report_checks size room Whole = 13 if ltb room (size * size) ∷ []
+-- Checks 5, 12, 13, as they apply: of the number of vessels and the length of the room. A report's checks are of the book; these look at its vessels alone.
+unfoldable pub asked_checks : ℕ → ℕ → Report → List Check
+asked_checks size room (Held v) = 5 if leb size v ∷ 13 if ltb room size ∷ []
+asked_checks size room (Spread u from to) = 5 if leb size u ∷ 12 if ltb to from ∷ 13 if ltb room size ∷ []
+asked_checks size room Whole = 13 if ltb room (size * size) ∷ []
+
+abbrev pub report_checks : Book → ℕ → Report → List Check
+report_checks b room q = asked_checks b.vessels room q
 
 -- "Numbers after these remain."
 abbrev pub onto : List ℕ → List ℕ → List ℕ

@@ -4,7 +4,7 @@ use Rattle.std.specs.Prelude.{◌++◌, List, [], ◌∷◌, ℕ, ◌+◌, ◌-�
 use Rattle.refusal.specs.Numbers.{TOP, Check, ◌if◌}
 use Rattle.book.specs.declared.Transfer.{Transfer}
 use Rattle.book.specs.declared.Motion.{Motion}
-use Rattle.book.specs.Motion.{Standing, Terms, motion}
+use Rattle.book.specs.Motion.{Standing, Terms}
 
 -- The largest age: "an unsigned 16-bit number, 0 to 65,535".
 abbrev pub most_age : ℕ

@@ -5,7 +5,7 @@
 ghost use Rattle.std.specs.Prelude.{◌≡◌, ◌≤◌, ◌*◌, Bool, if◌then◌else◌, ℕ, length};
 ghost use Rattle.table.specs.declared.Piece.{Piece};
 ghost use Rattle.refusal.specs.Numbers.{first};
-ghost use Rattle.book.specs.Reports.{held_row, spread_row, rows, report_row, report_checks, onto};
+ghost use Rattle.book.specs.Reports.{held_row, spread_row, rows, report_row, asked_checks, onto};
 ghost use Rattle.filling.specs.Scatter.{held_by, born, off_scale, origin_of, holder_of, cell_of, entered, scatter, Enterable, Fillable, Tallied, one_pass, Reportable};
 
 use book::{Report, SCALE};
@@ -155,7 +155,7 @@ pub fn fill_rows(pieces: &Pieces, vessels: u32, report: &mut [u32])
 // above: the pieces are read, the room is written, and that they fit is known of a book that adds up, not of one of them.
 #[tactic(auto, using(crate::proofs::Filling::room_laws))]
 pub fn fill(pieces: &Pieces, vessels: u32, asked: Report, room: &mut [u32])
-    requires { (first (report_checks vessels (length room.old) asked) ≡ 0) × Reportable vessels pieces.now }
+    requires { (first (asked_checks vessels (length room.old) asked) ≡ 0) × Reportable vessels pieces.now }
     ensures { room.new ≡ onto (report_row vessels pieces.now asked) room.old }
 {
     let size = vessels as usize;

@@ -12,7 +12,7 @@ use Rattle.book.specs.declared.Reply.{Reply}
 use Rattle.book.specs.Head.{Sized}
 use Rattle.book.specs.Calls.{ask}
 use Rattle.book.specs.Memory.{book_checks, number_of, call_on}
-use Rattle.book.specs.Reports.{report_row, report_checks, onto}
+use Rattle.book.specs.Reports.{report_row, asked_checks, onto}
 use Rattle.book.specs.declared.Report.{Report}
 use Rattle.book.specs.declared.Report.TheVariants.{Whole}
 use Rattle.book.proofs.Memory.{refused_on, off_number, on_number, passed_book, book_passed}
@@ -27,7 +27,7 @@ module _ (h : Head) (t : List ℕ) (q : Report) (room : List ℕ) where
   asked_off n e nz = grind (arith, off_number h t (ask q room) n)
 
   -- and as its own do, past checks 1 and 4
-  pub asked_on : (0 ≡ first (book_checks h t)) × Sized h → (n : ℕ) → n ≡ first (report_checks h.vessels (length room) q) → Judged h q t room n
+  pub asked_on : (0 ≡ first (book_checks h t)) × Sized h → (n : ℕ) → n ≡ first (asked_checks h.vessels (length room) q) → Judged h q t room n
   asked_on up n en = grind (arith, on_number h t (ask q room) 0 up.0)
 
   -- refused
@@ -49,7 +49,7 @@ module _ (h : Head) (t : List ℕ) (q : Report) (room : List ℕ) where
       pub asked_there : 4 * h.pieces ≤ length t
       asked_there = book.there
 
-      pub asked_fits : first (report_checks h.vessels (length room) q) ≡ 0
+      pub asked_fits : first (asked_checks h.vessels (length room) q) ≡ 0
       asked_fits = grind (arith, on_number h t (ask q room) 0 up)
 
       pub asked_reportable : Reportable h.vessels (pieces_of h.pieces t)

@@ -5,7 +5,7 @@ ghost use Rattle.std.specs.Prelude.{◌≡◌};
 ghost use Rattle.refusal.specs.Numbers.{first};
 ghost use Rattle.refusal.specs.Refusals.{outcome_number};
 ghost use Rattle.book.specs.declared.Report.TheVariants.{Held, Spread, Whole};
-ghost use Rattle.book.specs.Reports.{report_checks};
+ghost use Rattle.book.specs.Reports.{asked_checks};
 ghost use Rattle.reports.specs.Asking.{Judged, Asks};
 
 use book::{Head, Reply, Report};
@@ -14,9 +14,9 @@ use refusal::Refusal;
 use table::reading::Pieces;
 
 // The checks after 1 and 4. What is asked is told by its variant, which is looked at once here and once where the room is filled.
-#[tactic(auto, unfolding(book::specs::Reports::report_checks))]
+#[tactic(auto, unfolding(book::specs::Reports::asked_checks))]
 fn check_asked(vessels: u32, asked: Report, room: usize) -> Result<(), Refusal>
-    ensures { outcome_number result ≡ first (report_checks vessels room asked) }
+    ensures { outcome_number result ≡ first (asked_checks vessels room asked) }
 {
     let row = vessels as usize;
     let needed = match asked {
