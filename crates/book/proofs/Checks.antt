@@ -1,7 +1,7 @@
 -- The checks of transfer, lift, tip and the setting of a rule: what it tells of each that none applies, that none applies where that holds, and what
 -- decides of a transfer once 5 to 8 do not.
 -- Assumes nothing.
-use Rattle.std.proofs.Common.{◌≡◌, ◌≢◌, [], ◌∷◌, ℕ, ◌+◌, ◌≤◌, ◌<◌, ltb, eqb, arith}
+use Rattle.std.proofs.Common.{◌≡◌, ◌≢◌, ◌∙◌, lt-ltb, [], ◌∷◌, ℕ, ◌+◌, ◌≤◌, ◌<◌, ltb, eqb, arith}
 use Rattle.std.proofs.lemmas.Bool.Decides.{nat_tests}
 use Rattle.taking.specs.Stirring.{stirred_rule}
 use Rattle.refusal.specs.Numbers.{TOP, ◌if◌, first}
@@ -76,3 +76,8 @@ module _ (g : Standing) (x : Transfer) (source_in : x.source < g.vessels) (desti
       ≡ first (21 if ltb x.minute x.age ∷ 9 if ltb TOP (g.balance x.destination + x.weight) ∷ 10 if eqb g.accepted TOP ∷ [])
   unfolding transfer_checks
   past_clock = grind (arith, nat_tests)
+
+-- Past 5 to 8 an age above the minute is 21, whatever the balances are: so also where nothing would be born.
+pub before_time : (g : Standing) (x : Transfer) → x.source < g.vessels → x.destination < g.vessels → x.source ≢ x.destination → x.weight ≢ 0
+    → g.last ≤ x.minute → x.minute < x.age → first (transfer_checks g x) ≡ 21
+before_time g x source_in destination_in apart weighty forward early = past_clock g x source_in destination_in apart weighty forward ∙ rw (lt-ltb _ _ early)

@@ -6,7 +6,4 @@ pub mod Setting
 pub mod Reports
 pub mod Calls
 pub mod Memory
-pub mod WeighBook
 pub mod Lists
-pub mod OneRule
-pub mod Former

@@ -1,16 +1,11 @@
--- Lists of calls, and demand 3: "Each call gets the head that the last one returned and the table as that one left it."
+-- Lists of calls: each call gets the head that the last one returned and the table as that one left it, and nobody else writes the table meanwhile.
 -- Definitions only. Assumes nothing.
-use Rattle.std.specs.Prelude.{◌≡◌, Bool, true, false, not, ◌||◌, cond, List, [], ◌∷◌, ℕ, ◌+◌, ◌-◌, ◌≤◌, eqb, length}
-use Rattle.std.specs.List.{list_all}
-use Rattle.table.specs.Pieces.{sum, born_at, held}
-use Rattle.table.specs.Table.{places_of}
-use Rattle.taking.specs.Stirring.{stirred_rule}
+use Rattle.std.specs.Prelude.{Bool, true, false, ◌||◌, if◌then◌else◌, List, [], ◌∷◌, ℕ, ◌+◌, ◌-◌}
 use Rattle.refusal.specs.Numbers.{if_zero}
 use Rattle.book.specs.declared.Head.{Head}
-use Rattle.book.specs.Head.{Book, book_of, adds_up, opened}
+use Rattle.book.specs.Head.{Book}
 use Rattle.book.specs.Calls.{Call, enter, set_rule, terms, meaning}
 use Rattle.book.specs.Memory.{Outcome, call_on}
-use Rattle.book.specs.WeighBook.{blank, feed, listed, forecast}
 
 -- a call with its number, how often it was an even transfer, and whether it made a pick under rule 4
 pub record Entry : Type 0 where
@@ -46,17 +41,17 @@ abbrev pub answered : List Entry → List Call
 answered [] = []
 answered (e ∷ es) = if_zero e.number (e.asked ∷ answered es) (answered es)
 
--- "Followed in turn": each of these calls does to the book what is said of it.
+-- the book after these calls, where each in turn does to it what is said of the call
 unfoldable pub follow : Book → List Call → Book
 follow b [] = b
 follow b (c ∷ cs) = follow ((meaning c).next b) cs
 
--- how many of the calls are transfers, lifts counted, and how many are tips; how many transfers answered 0 were even; the numbers of
--- transfers, lifts and tips
+-- how many of the calls are transfers, lifts counted
 abbrev pub transfers : List Call → ℕ
 transfers [] = 0
 transfers (c ∷ cs) = (meaning c).counts + transfers cs
 
+-- how many are tips: what is posted and does not count
 abbrev pub tips_in : Call → ℕ
 tips_in (enter p) = 1 - (terms p).counts
 tips_in c = 0
@@ -65,13 +60,15 @@ abbrev pub tips : List Call → ℕ
 tips [] = 0
 tips (c ∷ cs) = tips_in c + tips cs
 
+-- how many transfers answered 0 were even
 abbrev pub evens : List Entry → ℕ
 evens [] = 0
 evens (e ∷ es) = e.even + evens es
 
-abbrev pub numbers : List Entry → List ℕ
-numbers [] = []
-numbers (e ∷ es) = listed e.asked e.number (numbers es)
+-- whether any call of a journal made a pick under rule 4
+abbrev pub stirs : List Entry → Bool
+stirs [] = false
+stirs (e ∷ es) = e.stirred || stirs es
 
 -- whether a call sets a rule, and a list without those that do
 abbrev pub sets_rule : Call → Bool
@@ -80,35 +77,4 @@ sets_rule c = false
 
 abbrev pub without_settings : List Call → List Call
 without_settings [] = []
-without_settings (c ∷ cs) = cond (sets_rule c) (without_settings cs) (c ∷ without_settings cs)
-
--- whether any call of a journal made a pick under rule 4
-abbrev pub stirs : List Entry → Bool
-stirs [] = false
-stirs (e ∷ es) = e.stirred || stirs es
-
--- A list in which no accepted call sets rule 4 is one of these (`first_rules`, proofs/Unstirred.antt). Whether a call sets it, and that none of these does:
-abbrev pub sets_stirred : Call → Bool
-sets_stirred (set_rule s) = eqb s.rule stirred_rule
-sets_stirred c = false
-
-abbrev pub sets_none : List Call → Bool
-sets_none cs = list_all (λ c. not (sets_stirred c)) cs
-
--- Demand 3, of the journal r of the calls cs on the head of an opening with this rule and this many vessels, and on the table t.
-pub record Demand3 (rule size : ℕ) (t : List ℕ) (cs : List Call) (r : Journal) : Type 0 where
-  -- the pieces are those, in that order, of the accepted calls followed in turn from the empty book
-  pub in_turn : book_of r.head r.table ≡ follow (opened rule size) (answered r.log)
-  -- in each vessel, and on the scale, they sum to the weigh book's weight there, fed the accepted transfers, lifts and tips
-  pub vessel_sums : (v : ℕ) → held v (book_of r.head r.table).pieces ≡ (feed (blank size) (answered r.log)).weight v
-  -- for each origin and birth minute they sum to what the weigh book saw born
-  pub birth_sums : (o m : ℕ) → sum (born_at o m) (book_of r.head r.table).pieces ≡ (feed (blank size) (answered r.log)).births o m
-  -- where rule 4 is never used, pieces + even transfers = accepted transfers, with lifts as transfers and no tip counted
-  pub even_count : stirs r.log ≡ false → r.head.pieces + evens r.log ≡ r.head.accepted
-  -- the head's count is the number of transfers and lifts answered 0
-  pub accepted_count : r.head.accepted ≡ transfers (answered r.log)
-  -- where rule 4 is never used, and no more transfers are listed, lifts and refused ones counted, than there are places, the weigh book alone gives the
-  -- number of every transfer and lift; and of every tip, if the table has at least 4 numbers
-  pub forecasts : stirs r.log ≡ false → transfers cs ≤ places_of t → (1 ≤ tips cs → 4 ≤ length t) → numbers r.log ≡ forecast (blank size) cs
-  -- the book adds up, so that number 4 never comes
-  pub book_adds_up : adds_up r.head r.table ≡ true
+without_settings (c ∷ cs) = if sets_rule c then without_settings cs else c ∷ without_settings cs

@@ -17,6 +17,10 @@ pub record Standing : Type 0 where
   pub last : ℕ
   pub accepted : ℕ
 
+-- one with nothing in it
+abbrev pub no_standing : Standing
+no_standing = record { vessels = 0; balance = λ v. 0; last = 0; accepted = 0 }
+
 abbrev pub of_book : Book → Standing
 of_book b = record { vessels = b.vessels; balance = λ v. held v b.pieces; last = b.last; accepted = b.accepted }
 

@@ -8,8 +8,7 @@ use Rattle.book.specs.declared.Transfer.{Transfer}
 use Rattle.book.specs.declared.Lift.{Lift}
 use Rattle.book.specs.declared.Tip.{Tip}
 use Rattle.book.specs.declared.Motion.{Motion}
-use Rattle.book.specs.Motion.{Standing, Terms}
-use Rattle.book.specs.Transfer.{transfer_of, motion_of}
+use Rattle.book.specs.Motion.{Standing, no_standing, Terms, motion}
 
 abbrev pub lift_of : ℕ → ℕ → ℕ → ℕ → Lift
 lift_of s t q age = record { source = s; minute = t; weight = q; age = age }
@@ -72,14 +71,9 @@ tip_terms scale y =
       counts = 0;
     }
 
+-- the motions that they are: of a lift on any book, of a tip where so much lies on the scale
 abbrev pub lift_motion : ℕ → Lift → Motion
-lift_motion scale x = motion_of (transfer_of x.source scale x.minute x.weight x.age)
+lift_motion scale x = motion (lift_terms scale x) no_standing
 
--- A tip moves all the weight on a scale, so that nothing is born, and does not count.
 abbrev pub tip_motion : ℕ → ℕ → Tip → Motion
-tip_motion scale weight y =
-    record {
-      moves = record { source = scale; destination = y.destination; birth = y.minute; weight = weight };
-      minute = y.minute;
-      counts = 0;
-    }
+tip_motion scale weight y = motion (tip_terms scale y) (record no_standing { balance = λ v. weight })

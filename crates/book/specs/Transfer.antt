@@ -4,7 +4,7 @@ use Rattle.std.specs.Prelude.{◌++◌, List, [], ◌∷◌, ℕ, ◌+◌, ◌-�
 use Rattle.refusal.specs.Numbers.{TOP, Check, ◌if◌}
 use Rattle.book.specs.declared.Transfer.{Transfer}
 use Rattle.book.specs.declared.Motion.{Motion}
-use Rattle.book.specs.Motion.{Standing, Terms}
+use Rattle.book.specs.Motion.{Standing, no_standing, Terms, motion}
 
 -- The largest age: "an unsigned 16-bit number, 0 to 65,535".
 abbrev pub most_age : ℕ
@@ -14,6 +14,11 @@ most_age = 65535
 abbrev pub transfer_of : ℕ → ℕ → ℕ → ℕ → ℕ → Transfer
 transfer_of s d t q age = record { source = s; destination = d; minute = t; weight = q; age = age }
 
+-- the transfer that has age 0
+abbrev pub unaged : ℕ → ℕ → ℕ → ℕ → Transfer
+unaged s d t q = transfer_of s d t q 0
+
+-- The checks of the vessels, and those after them.
 abbrev pub vessel_checks : Standing → Transfer → List Check
 vessel_checks g x = 5 if leb g.vessels x.source ∷ 5 if leb g.vessels x.destination ∷ []
 
@@ -44,11 +49,6 @@ transfer_terms x =
       counts = 1;
     }
 
--- the motion that a transfer is
+-- the motion that a transfer is, on any book
 abbrev pub motion_of : Transfer → Motion
-motion_of x =
-    record {
-      moves = record { source = x.source; destination = x.destination; birth = x.minute - x.age; weight = x.weight };
-      minute = x.minute;
-      counts = 1;
-    }
+motion_of x = motion (transfer_terms x) no_standing

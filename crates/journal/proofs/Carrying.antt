@@ -22,8 +22,8 @@ use Rattle.reports.specs.Asking.{Asks}
 use Rattle.journal.specs.Carried.{call_size, call_in, age_off, room_left, Makes, Carried, carried, all_carried, MakesAll, calls_in, count_calls, carry_number, CarriesOut}
 use Rattle.reports.proofs.Asked.{asked_nothing}
 use Rattle.book.proofs.HeadLaws.{openable, open_accepted}
-use Rattle.book.proofs.InWords.{set_writes_nothing}
-use Rattle.book.proofs.Lists.{demand_3}
+use Rattle.book.proofs.Accepted.{set_writes_nothing}
+use Rattle.conservation.proofs.Lists.{demand_3}
 use Rattle.journal.specs.declared.Call as Read
 use Rattle.journal.specs.Reading.{call_read, called}
 use Rattle.journal.proofs.Reading.{read_on, called_is}

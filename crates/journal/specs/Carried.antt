@@ -20,7 +20,8 @@ use Rattle.book.specs.Scale.{lift_of, tip_of}
 use Rattle.book.specs.Setting.{setting_of}
 use Rattle.book.specs.Calls.{Call, post, lift, tip, set_rule, ask}
 use Rattle.book.specs.Memory.{Outcome, call_on, replied}
-use Rattle.book.specs.Lists.{calls_on, Demand3}
+use Rattle.book.specs.Lists.{calls_on}
+use Rattle.conservation.specs.Conservation.{Demand3}
 
 abbrev pub call_size : ℕ
 call_size = 6

@@ -13,7 +13,7 @@ use Rattle.book.specs.Calls.{set_rule}
 use Rattle.book.specs.Memory.{book_checks, number_of, call_on, replied}
 use Rattle.book.proofs.Checks.{setting_fit}
 use Rattle.book.proofs.Memory.{call_number, refused_on, off_number, on_number}
-use Rattle.book.proofs.InWords.{passed_own, accepted_book, ruled_is}
+use Rattle.book.proofs.Accepted.{checks_passed, accepted_book, ruled_is}
 
 module _ (h : Head) (t : List ℕ) (s : Setting) where
   pub set_off : (n : ℕ) → (n ≡ first (book_checks h t)) × Sized h → (n ≡ 0 → ⊥) → n ≡ number_of h t (set_rule s)
@@ -25,7 +25,7 @@ module _ (h : Head) (t : List ℕ) (s : Setting) where
   pub set_inside : 0 ≡ number_of h t (set_rule s) → s.vessel < most_vessels
   set_inside e =
       let few = (accepted_book h t (set_rule s) (sym e)).vessels_fit in
-      let f = setting_fit h.vessels s (passed_own h t (set_rule s) (sym e)) in
+      let f = setting_fit h.vessels s (checks_passed h t (set_rule s) (sym e)) in
       omega (arith, f.vessel_in)
 
   pub set_accepted : 0 ≡ number_of h t (set_rule s) → (k : Head) → k ≡ ruled h s → record { number = 0; head = k } ≡ replied (call_on h t (set_rule s))

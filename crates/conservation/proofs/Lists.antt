@@ -5,10 +5,11 @@ use Rattle.std.proofs.Common.{◌≡◌, refl, ap, false, List, [], ◌∷◌, �
 use Rattle.table.specs.Table.{places_of, places_in}
 use Rattle.book.specs.Head.{Book, opened, opening}
 use Rattle.book.specs.Calls.{Call, meaning}
-use Rattle.book.specs.WeighBook.{WeighBook, weighing, blank, feed, forecast}
-use Rattle.book.specs.Lists.{Entry, Journal, calls_on, all_asked, answered, follow, transfers, tips, evens, numbers, stirs, Demand3}
+use Rattle.conservation.specs.WeighBook.{WeighBook, weighing, blank, feed, forecast}
+use Rattle.book.specs.Lists.{Entry, Journal, calls_on, all_asked, answered, follow, transfers, tips, evens, stirs}
+use Rattle.conservation.specs.Conservation.{numbers, Demand3}
 use Rattle.book.proofs.Sound.{number, SoundBook, keeps, count_kept}
-use Rattle.book.proofs.Beside.{Beside, Walks, walks}
+use Rattle.conservation.proofs.Beside.{Beside, Walks, walks}
 use Rattle.book.proofs.Memory.{back, adds}
 use Rattle.book.proofs.Along.{step, entry, Ends, from_opening}
 

@@ -10,13 +10,14 @@ use Rattle.book.specs.declared.Transfer.{Transfer}
 use Rattle.book.specs.Head.{empty_head, open_checks, opens, opening}
 use Rattle.book.specs.Calls.{Call, post}
 use Rattle.book.specs.Memory.{Outcome, call_on}
-use Rattle.book.specs.Lists.{Journal, calls_on, without_settings, evens, numbers, stirs, sets_stirred, sets_none, Demand3}
-use Rattle.book.specs.OneRule.{one_rule_calls}
+use Rattle.book.specs.Lists.{Journal, calls_on, without_settings, evens, stirs}
+use Rattle.conservation.specs.Conservation.{numbers, sets_stirred, sets_none, Demand3}
+use Rattle.former.specs.OneRule.{one_rule_calls}
 use Rattle.book.proofs.Memory.{refused_memory, refused_even}
-use Rattle.book.proofs.Lists.{demand_3}
-use Rattle.book.proofs.Unstirred.{first_rules, answered_all}
-use Rattle.book.proofs.Scale.{post_scale}
-use Rattle.book.proofs.OneRule.{never_set, opened_unset}
+use Rattle.conservation.proofs.Lists.{demand_3}
+use Rattle.conservation.proofs.Unstirred.{first_rules, answered_all}
+use Rattle.wording.proofs.Scale.{post_scale}
+use Rattle.former.proofs.OneRule.{never_set, opened_unset}
 use Rattle.sheet.specs.Sheet.{rule_of, vessels_of, movements_of, read_number}
 use Rattle.run.specs.Run.{transfers_of, Running, ended, go_on, run_from, run_number, running}
 use Rattle.fields.proofs.GroupLaws.{length_groups}

@@ -9,9 +9,10 @@ use Rattle.table.specs.Pieces.{sum, born_at, held}
 use Rattle.table.specs.Table.{places_of}
 use Rattle.book.specs.Head.{book_of, opening}
 use Rattle.book.specs.Calls.{Call, set_rule}
-use Rattle.book.specs.WeighBook.{WeighBook, blank, weigh_number, weigh_step, feed, listed, forecast}
-use Rattle.book.specs.Lists.{calls_on, answered, stirs, without_settings, transfers, tips, numbers}
-use Rattle.book.proofs.Lists.{demand_3, fed_all}
+use Rattle.conservation.specs.WeighBook.{WeighBook, blank, weigh_number, weigh_step, feed, listed, forecast}
+use Rattle.book.specs.Lists.{calls_on, answered, stirs, without_settings, transfers, tips}
+use Rattle.conservation.specs.Conservation.{numbers}
+use Rattle.conservation.proofs.Lists.{demand_3, fed_all}
 
 -- settings left out, the weigh book forecasts the same and is the same
 unset_forecast : (cs : List Call) (w : WeighBook) → forecast w cs ≡ forecast w (without_settings cs)

@@ -9,18 +9,13 @@ use Rattle.table.specs.declared.Piece.{Piece}
 use Rattle.table.specs.Table.{pieces_of}
 use Rattle.refusal.specs.Numbers.{TOP, Check, ◌if◌, first}
 use Rattle.book.specs.declared.Head.{Head}
-use Rattle.book.specs.declared.Transfer.{Transfer}
 use Rattle.book.specs.Head.{book_of, balances_of, all_of, lot_tests, every, same}
 use Rattle.book.specs.Motion.{Standing}
-use Rattle.book.specs.Transfer.{transfer_of, transfer_terms}
+use Rattle.book.specs.Transfer.{transfer_terms, unaged}
 use Rattle.book.specs.Calls.{Meaning}
 use Rattle.book.specs.Memory.{Outcome, outcome}
-use Rattle.book.specs.WeighBook.{WeighBook}
-use Rattle.book.specs.OneRule.{former_posting, former_count_tests}
-
--- the transfer that has age 0
-abbrev pub unaged : ℕ → ℕ → ℕ → ℕ → Transfer
-unaged s d t q = transfer_of s d t q 0
+use Rattle.conservation.specs.WeighBook.{WeighBook}
+use Rattle.former.specs.OneRule.{former_posting, former_count_tests}
 
 abbrev pub former_checks : Standing → ℕ → ℕ → ℕ → ℕ → List Check
 former_checks g s d t q =

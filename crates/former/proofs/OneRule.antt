@@ -17,12 +17,12 @@ use Rattle.book.specs.Motion.{of_book, Terms, takes, pieces_after}
 use Rattle.book.specs.Calls.{Posting, terms, Call, enter, set_rule, place_checks, motion_on, Meaning, posting_meaning, meaning}
 use Rattle.book.specs.Memory.{outcome, book_checks, number_of, call_on}
 use Rattle.book.specs.Lists.{noted, calls_on, sets_rule, without_settings}
-use Rattle.book.specs.OneRule.{former_takes, former_pieces, former_posting, one_rule, one_rule_checks, one_rule_number, one_rule_on, one_rule_calls}
+use Rattle.former.specs.OneRule.{former_takes, former_pieces, former_posting, one_rule, one_rule_checks, one_rule_number, one_rule_on, one_rule_calls}
 use Rattle.book.proofs.RuleLaws.{given_fit, given_at, given_unstirred}
 use Rattle.book.proofs.Memory.{number_split, number_same, passed_book, book_passed, on_number, rule_kept, rules_kept}
 use Rattle.book.proofs.Sound.{number, proper, keeps, count_kept}
 use Rattle.book.proofs.Known.{AddsUp, adds_up_told, adds_sound, adds_on}
-use Rattle.book.proofs.Unstirred.{asks_none}
+use Rattle.conservation.proofs.Unstirred.{asks_none}
 use Rattle.table.specs.Table.{places_of}
 
 module _ (h : Head) (t : List ℕ) (unset : h.rules ≡ given_rules h.rule h.vessels) (counted : h.pieces ≤ h.accepted) where

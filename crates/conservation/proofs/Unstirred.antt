@@ -8,7 +8,8 @@ use Rattle.book.specs.declared.Head.{Head}
 use Rattle.book.specs.Head.{Book, opened, opening}
 use Rattle.book.specs.Calls.{Call, enter, set_rule, terms, meaning}
 use Rattle.book.specs.Memory.{call_on}
-use Rattle.book.specs.Lists.{Entry, calls_on, answered, stirs, sets_stirred, sets_none}
+use Rattle.book.specs.Lists.{Entry, calls_on, answered, stirs}
+use Rattle.conservation.specs.Conservation.{sets_stirred, sets_none}
 use Rattle.book.proofs.RuleLaws.{Unstirred, given_unstirred, set_unstirred}
 use Rattle.book.proofs.Sound.{number, SoundBook}
 use Rattle.book.proofs.Along.{step, entry, from_opening}

@@ -9,14 +9,14 @@ use Rattle.taking.specs.Taking.{take_up_to, taken}
 use Rattle.book.specs.declared.Transfer.{Transfer}
 use Rattle.book.specs.Head.{Book, tab, balances_of, every, same, adds_up, opening, rules_fit, all_zero}
 use Rattle.book.specs.Motion.{takes}
-use Rattle.book.specs.Transfer.{transfer_checks, motion_of}
+use Rattle.book.specs.Transfer.{transfer_checks, motion_of, unaged}
 use Rattle.book.specs.Calls.{post, meaning}
 use Rattle.book.specs.Memory.{book_checks, number_of, call_on}
-use Rattle.book.specs.Former.{unaged}
-use Rattle.book.specs.WeighBook.{WeighBook, blank, weigh_number, feed}
-use Rattle.book.specs.Lists.{Journal, calls_on, answered, evens, numbers}
+use Rattle.conservation.specs.WeighBook.{WeighBook, blank, weigh_number, feed}
+use Rattle.book.specs.Lists.{Journal, calls_on, answered, evens}
+use Rattle.conservation.specs.Conservation.{numbers}
 use Rattle.book.proofs.Sound.{all_taken}
-use Rattle.book.proofs.Cases.{Case, worked, seen, pieces}
+use Rattle.cases.proofs.Cases.{Case, worked, seen, pieces}
 
 pub data Name : Type 0 where
   K1 : Name

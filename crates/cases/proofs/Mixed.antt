@@ -16,7 +16,7 @@ use Rattle.book.specs.Setting.{setting_of, setting_checks}
 use Rattle.book.specs.Calls.{Call, post, lift, tip, set_rule}
 use Rattle.book.specs.Memory.{number_of, book_checks, call_on}
 use Rattle.book.specs.Lists.{Entry, Journal, calls_on}
-use Rattle.book.proofs.Cases.{Case, called, seen, pieces}
+use Rattle.cases.proofs.Cases.{Case, called, seen, pieces}
 
 abbrev pub give : ℕ → ℕ → ℕ → ℕ → ℕ → Call
 give s d t q age = post (transfer_of s d t q age)

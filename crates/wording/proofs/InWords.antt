@@ -3,7 +3,7 @@
 -- scale, in the order they lay, behind them; a setting changes one number of the head, and the picks from one vessel. And a report: its numbers are
 -- written, and the numbers after these remain. What is refused gives zeros, the head as it was, and changes nothing.
 -- Assumes nothing.
-use Rattle.std.proofs.Common.{◌≡◌, refl, sym, ap, ◌≢◌, not, List, [], ◌∷◌, ◌++◌, map, append-nil, ℕ, arith, leb, ltb, length, take, drop, take_at, drop_at, ◌∙◌}
+use Rattle.std.proofs.Common.{◌≡◌, refl, sym, ◌≢◌, not, List, [], ◌∷◌, ◌++◌, map, append-nil, ℕ, arith, leb, ltb, length, take, drop, take_at, drop_at, ◌∙◌}
 use Rattle.std.proofs.lemmas.Bool.Decides.{nat_tests}
 use Rattle.table.specs.declared.Piece.{Piece}
 use Rattle.table.specs.Pieces.{hand_to}
@@ -23,18 +23,18 @@ use Rattle.book.specs.declared.Setting.{Setting}
 use Rattle.book.specs.declared.Motion.{Motion}
 use Rattle.book.specs.declared.Report.{Report}
 use Rattle.book.specs.Head.{the_scale, most_vessels, book_of, adds_up, rule_at}
-use Rattle.book.specs.Motion.{of_book, takes}
-use Rattle.book.specs.Transfer.{transfer_checks, motion_of}
-use Rattle.book.specs.Scale.{lift_checks, lift_motion, tip_terms}
+use Rattle.book.specs.Motion.{takes}
+use Rattle.book.specs.Transfer.{motion_of}
+use Rattle.book.specs.Scale.{lift_motion, tip_terms}
 use Rattle.book.specs.Setting.{setting_checks, ruled}
 use Rattle.book.specs.Reports.{report_row}
 use Rattle.book.specs.Calls.{Call, post, lift, tip, set_rule, ask, Answer, no_answer, motion_on, meaning}
 use Rattle.book.specs.Memory.{number_of, book_checks, call_on}
 use Rattle.book.proofs.RuleLaws.{set_at, set_others}
-use Rattle.book.proofs.Checks.{Fit, LiftFit, setting_fit}
-use Rattle.book.proofs.Memory.{call_number, refused_on, on_number, passed_book, book_passed}
-use Rattle.book.proofs.Known.{AddsUp, adds_up_told, adds_head}
+use Rattle.book.proofs.Checks.{setting_fit}
+use Rattle.book.proofs.Memory.{call_number, refused_on}
 use Rattle.book.proofs.ReportLaws.{all_pass}
+use Rattle.book.proofs.Accepted.{checks_passed, accepted_book, post_fit, fit_lift, set_writes_nothing, ruled_is}
 
 abbrev pub moved_answer : Moved → Answer
 moved_answer r = record no_answer { whole = r.whole; split = r.split; born = r.missing }
@@ -42,21 +42,6 @@ moved_answer r = record no_answer { whole = r.whole; split = r.split; born = r.m
 module _ (h : Head) (t : List ℕ) where
   abbrev ps : List Piece
   ps = pieces_of h.pieces t
-
-  -- a call that is answered 0 has passed its own checks, on a book that adds up
-  pub passed_own : (c : Call) → number_of h t c ≡ 0 → first ((meaning c).checks (length t) (book_of h t)) ≡ 0
-  passed_own c e = sym (on_number h t c _ refl (passed_book h t c e)) ∙ e
-
-  pub accepted_book : (c : Call) → number_of h t c ≡ 0 → AddsUp h t
-  accepted_book c e = adds_up_told h t (book_passed h t (passed_book h t c e)).1
-
-  pub post_fit : (x : Transfer) → number_of h t (post x) ≡ 0 → Fit (of_book (book_of h t)) x
-  unfolding transfer_checks
-  post_fit x e = grind (arith, nat_tests, passed_own (post x) e)
-
-  pub fit_lift : (x : Lift) → number_of h t (lift x) ≡ 0 → LiftFit the_scale (of_book (book_of h t)) x
-  unfolding lift_checks
-  fit_lift x e = grind (arith, nat_tests, passed_own (lift x) e)
 
   -- what takes weight from a vessel, by the rule of its source
   abbrev moved : Motion → Moved
@@ -69,22 +54,22 @@ module _ (h : Head) (t : List ℕ) where
   unfolding call_on takes
   in_words x z first =
       let e = sym (call_number h t (post x)) ∙ z in
-      let apart = (post_fit x e).apart in
+      let apart = (post_fit h t x e).apart in
       rw (e, taken_in_table _ (motion_of x).moves ps first (λ q. apart (sym q))) (refl, refl)
 
   pub lift_in_words : (x : Lift) → (call_on h t (lift x)).number ≡ 0 → rule_at h.rules x.source ≢ stirred_rule → InWords (lift x) (lift_motion the_scale x)
   unfolding call_on takes
   lift_in_words x z first =
       let e = sym (call_number h t (lift x)) ∙ z in
-      let k = (accepted_book (lift x) e).vessels_fit in
-      rw (e, taken_in_table _ (lift_motion the_scale x).moves ps first (λ q. omega (arith, (fit_lift x e).source_in))) (refl, refl)
+      let k = (accepted_book h t (lift x) e).vessels_fit in
+      rw (e, taken_in_table _ (lift_motion the_scale x).moves ps first (λ q. omega (arith, (fit_lift h t x e).source_in))) (refl, refl)
 
   pub tip_in_words : (y : Tip) → (call_on h t (tip y)).number ≡ 0
       → (call_on h t (tip y)).table ≡ lay (elsewhere the_scale ps ++ map (hand_to y.destination) (held_by the_scale ps)) t
   unfolding call_on takes
   tip_in_words y z =
       let e = sym (call_number h t (tip y)) ∙ z in
-      let weighty = all_map (λ p f. f.weighty) (accepted_book (tip y) e).sound in
+      let weighty = all_map (λ p f. f.weighty) (accepted_book h t (tip y) e).sound in
       rw (e, swept_whole (motion_on (tip_terms the_scale y) (book_of h t)).moves ps weighty refl) (simp append-nil)
 
   -- "Each accepted report writes exactly the weights that document 01 names for it", and "numbers after these remain".
@@ -106,23 +91,14 @@ module _ (h : Head) (t : List ℕ) where
   unfolding number_of book_checks setting_checks
   set_checks s = grind (arith, nat_tests)
 
-  -- a setting, refused or accepted, writes nothing
-  pub set_writes_nothing : (s : Setting) → (call_on h t (set_rule s)).table ≡ t
-  unfolding call_on
-  set_writes_nothing s = grind arith
-
   -- "A new call sets [a vessel's rule] at any moment for later picks": of all numbers of head and table just that one changes, and the vessel is picked
   -- from by it, any other as before.
-  pub ruled_is : (s : Setting) → number_of h t (set_rule s) ≡ 0 → (call_on h t (set_rule s)).head ≡ ruled h s
-  unfolding call_on ruled
-  ruled_is s e = rw e (ap (λ (k : Head). ruled k s) (sym (adds_head h t (accepted_book (set_rule s) e))))
-
   pub set_in_words : (s : Setting) → (call_on h t (set_rule s)).number ≡ 0 → length h.rules ≡ most_vessels
       → let o = call_on h t (set_rule s) in
       (o.head ≡ ruled h s) × (o.table ≡ t) × (rule_at o.head.rules s.vessel ≡ s.rule) × ((v : ℕ) → v ≢ s.vessel → rule_at o.head.rules v ≡ rule_at h.rules v)
   unfolding ruled
   set_in_words s z long =
       let e = sym (call_number h t (set_rule s)) ∙ z in
-      let few = (accepted_book (set_rule s) e).vessels_fit in
-      let f = setting_fit h.vessels s (passed_own (set_rule s) e) in
-      rw (ruled_is s e) (refl, set_writes_nothing s, set_at s.vessel s.rule h.rules (omega (arith, f.vessel_in)) long, λ v u. set_others s.vessel s.rule v h.rules u)
+      let few = (accepted_book h t (set_rule s) e).vessels_fit in
+      let f = setting_fit h.vessels s (checks_passed h t (set_rule s) e) in
+      rw (ruled_is h t s e) (refl, set_writes_nothing h t s, set_at s.vessel s.rule h.rules (omega (arith, f.vessel_in)) long, λ v u. set_others s.vessel s.rule v h.rules u)

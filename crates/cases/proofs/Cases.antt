@@ -6,7 +6,8 @@ use Rattle.table.specs.Table.{pieces_of, flat}
 use Rattle.book.specs.declared.Transfer.{Transfer}
 use Rattle.book.specs.Head.{opening}
 use Rattle.book.specs.Calls.{Call, post}
-use Rattle.book.specs.Lists.{Journal, calls_on, evens, numbers}
+use Rattle.book.specs.Lists.{Journal, calls_on, evens}
+use Rattle.conservation.specs.Conservation.{numbers}
 
 pub record Case : Type 0 where
   pub rule : ℕ

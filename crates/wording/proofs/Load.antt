@@ -2,15 +2,13 @@
 -- Whatever is called but tips, the load stays on the scale as it is, in its order (`load_waits`): a transfer takes from its source and joins the end,
 -- a lift is refused, and a report and the setting of a rule move nothing. "A tip brings them in behind all that d received meanwhile":
 -- `tip_comes_last`. "Pieces on it are in no vessel, and no vessel's report includes them": `report_unloaded`. Nor does it play a part in a transfer:
--- `load_apart`. All that on small cases: `tip_behind`, `left_out`, `waited`.
+-- `load_apart`.
 -- Assumes nothing.
-use Rattle.std.proofs.Common.{◌≡◌, refl, sym, ap, ◌≢◌, List, [], ◌∷◌, ◌++◌, map, ℕ, ◌+◌, ne_eqb, zero, suc, ◌<◌, arith, length, take, replicate, ◌∙◌}
+use Rattle.std.proofs.Common.{◌≡◌, refl, sym, ap, ◌≢◌, List, [], ◌∷◌, ◌++◌, map, ℕ, ◌+◌, ne_eqb, zero, suc, ◌<◌, arith, length, ◌∙◌}
 use Rattle.std.proofs.lemmas.Bool.Decides.{nat_tests}
 use Rattle.table.specs.declared.Piece.{Piece}
 use Rattle.table.specs.Pieces.{in_vessel, hand_to}
-use Rattle.table.specs.Table.{pieces_of, flat, lay, places_in}
-use Rattle.taking.specs.Selection.{precedes}
-use Rattle.taking.specs.Taking.{take_up_to, taken}
+use Rattle.table.specs.Table.{pieces_of, lay}
 use Rattle.taking.specs.Sweeping.{held_by, elsewhere}
 use Rattle.taking.proofs.HeldBy.{sum_elsewhere}
 use Rattle.taking.proofs.Handed.{handed_others}
@@ -23,22 +21,21 @@ use Rattle.book.specs.declared.Lift.{Lift}
 use Rattle.book.specs.declared.Tip.{Tip}
 use Rattle.book.specs.declared.Setting.{Setting}
 use Rattle.book.specs.declared.Report.{Report}
-use Rattle.book.specs.declared.Report.TheVariants.{Held, Spread, Whole}
-use Rattle.book.specs.Head.{Book, the_scale, book_of, tab, balances_of, every, same, adds_up, opening, rules_fit, all_zero, given_rules, rule_at}
+use Rattle.book.specs.Head.{Book, the_scale, book_of, rule_at}
 use Rattle.book.specs.Motion.{of_book, takes}
-use Rattle.book.specs.Transfer.{transfer_of, transfer_checks, motion_of}
-use Rattle.book.specs.Scale.{lift_of, tip_of, lift_checks, tip_checks}
+use Rattle.book.specs.Transfer.{transfer_checks, motion_of}
+use Rattle.book.specs.Scale.{lift_checks, tip_checks}
 use Rattle.book.specs.Setting.{setting_checks}
-use Rattle.book.specs.Reports.{rows, report_row, asked_checks, onto}
+use Rattle.book.specs.Reports.{report_row, asked_checks, onto}
 use Rattle.book.specs.Calls.{Posting, Call, enter, terms, motion_on, post, lift, tip, set_rule, ask, meaning}
 use Rattle.book.specs.Memory.{Outcome, number_of, book_checks, call_on}
 use Rattle.book.specs.Lists.{calls_on, tips_in, tips}
 use Rattle.book.proofs.Sound.{takes_fair, held_after, proper, posted_own}
 use Rattle.book.proofs.Memory.{call_number, accepted_on, refused_memory, on_number, number_split, number_same, book_passed, back, in_step}
 use Rattle.book.proofs.Known.{adds_up_told, adds_sound, adds_on}
-use Rattle.book.proofs.InWords.{passed_own, accepted_book, post_fit, tip_in_words}
+use Rattle.book.proofs.Accepted.{checks_passed, accepted_book, post_fit}
+use Rattle.wording.proofs.InWords.{tip_in_words}
 use Rattle.book.proofs.ReportLaws.{row_unloaded, all_pass}
-use Rattle.book.proofs.Cases.{Case, called, seen, pieces, answers}
 
 -- what is on the scale, in the order it lies
 abbrev pub load : Head → List ℕ → List Piece
@@ -70,7 +67,7 @@ module _ (h : Head) (t : List ℕ) where
     outside v u e =
         let p = terms v in
         let a = accepted_book h t (enter v) e in
-        let own = first_zero _ _ (sym (posted_own p (proper v) (length t) (book_of h t)) ∙ passed_own h t (enter v) e) in
+        let own = first_zero _ _ (sym (posted_own p (proper v) (length t) (book_of h t)) ∙ checks_passed h t (enter v) e) in
         let f = (proper v).fits (of_book (book_of h t)) own in
         let i : p.source < h.vessels = f.from_vessel (omega arith) in
         let few = a.vessels_fit in
@@ -164,70 +161,5 @@ pub report_unloaded : (h : Head) (t : List ℕ) (q : Report) (room : List ℕ) �
 report_unloaded h t q room z =
     let e = sym (call_number h t (ask q room)) ∙ z in
     let few = (accepted_book h t (ask q room) e).vessels_fit in
-    let own = passed_own h t (ask q room) e in
+    let own = checks_passed h t (ask q room) e in
     ap (λ (o : Outcome). o.room) (accepted_on h t (ask q room) e) ∙ ap (λ (w : List ℕ). onto w room) (ap (λ (ps : List Piece). report_row h.vessels ps q) (all_pass (pieces_of h.pieces t)) ∙ sym (row_unloaded h.vessels few (pieces_of h.pieces t) (length room) q own))
-
--- a book of three vessels under a rule: two pieces on the scale, each with a piece of another behind it
-abbrev laden : ℕ → Head
-laden rule = record { rule = rule; vessels = 3; pieces = 4; last = 5; accepted = 9; balances = 3 ∷ 5 ∷ replicate 62 0; scale = 6; rules = given_rules rule 3 }
-
-abbrev lying : List ℕ
-lying = 64 ∷ 0 ∷ 5 ∷ 2 ∷ 1 ∷ 2 ∷ 1 ∷ 5 ∷ 64 ∷ 2 ∷ 3 ∷ 4 ∷ 0 ∷ 1 ∷ 2 ∷ 3 ∷ 7 ∷ 7 ∷ []
-
--- the table, and of the head the scale, the last minute, the count and two balances
-abbrev tipped_into_1 : ℕ → List ℕ
-tipped_into_1 rule = let o = call_on (laden rule) lying (tip (tip_of 1 9)) in o.table ++ (o.head.scale ∷ o.head.last ∷ o.head.accepted ∷ take 2 o.head.balances)
-
-abbrev behind : List ℕ
-behind = 1 ∷ 2 ∷ 1 ∷ 5 ∷ 0 ∷ 1 ∷ 2 ∷ 3 ∷ 1 ∷ 0 ∷ 5 ∷ 2 ∷ 1 ∷ 2 ∷ 3 ∷ 4 ∷ 7 ∷ 7 ∷ 0 ∷ 9 ∷ 9 ∷ 3 ∷ 11 ∷ []
-
-pub tip_behind : map tipped_into_1 (0 ∷ 1 ∷ 2 ∷ 3 ∷ []) ≡ behind ∷ behind ∷ behind ∷ behind ∷ []
-unfolding call_on number_of book_checks adds_up rules_fit all_zero every same balances_of tab places_in pieces_of flat tip_checks takes taken take_up_to precedes
-tip_behind = refl
-
--- The same book's reports, and the number behind them.
-abbrev reported : Report → List ℕ
-reported q = (call_on (laden 0) lying (ask q (replicate 10 7))).room
-
-abbrev vessels_only : List (List ℕ)
-vessels_only = (0 ∷ 3 ∷ 0 ∷ replicate 7 7) ∷ (0 ∷ 5 ∷ 0 ∷ replicate 7 7) ∷ (0 ∷ 3 ∷ 0 ∷ 0 ∷ 0 ∷ 5 ∷ 0 ∷ 0 ∷ 0 ∷ 7 ∷ []) ∷ []
-
--- and of 64 vessels, where the scale's number would be behind the row
-abbrev all_vessels : Head
-all_vessels = record { rule = 0; vessels = 64; pieces = 1; last = 5; accepted = 1; balances = replicate 64 0; scale = 7; rules = replicate 64 0 }
-
-pub left_out : (map reported (Held 0 ∷ Spread 2 0 9 ∷ Whole ∷ []) ≡ vessels_only)
-    × ((call_on all_vessels (64 ∷ 63 ∷ 5 ∷ 7 ∷ []) (ask (Spread 63 0 9) (replicate 65 7))).room ≡ replicate 64 0 ++ (7 ∷ []))
-unfolding call_on number_of book_checks adds_up rules_fit all_zero every same balances_of tab places_in pieces_of flat asked_checks rows
-left_out = (refl, refl)
-
--- What waits on the scale: part of two lots of vessel 0, which gives and receives meanwhile, gets it back behind what it received, and gives by that.
--- (Had the tip left it where it lay, rules 0 and 1 would pick otherwise.)
-abbrev waiting : List Call
-waiting =
-    post (transfer_of 1 0 1 4 0)
-    ∷ post (transfer_of 2 0 2 3 0)
-    ∷ lift (lift_of 0 3 5 0)
-    ∷ post (transfer_of 0 1 4 1 0)
-    ∷ lift (lift_of 1 4 1 0)
-    ∷ ask Whole (replicate 9 7)
-    ∷ post (transfer_of 2 0 4 2 0)
-    ∷ []
-
-abbrev returned : List Call
-returned = waiting ++ (tip (tip_of 0 5) ∷ post (transfer_of 0 2 5 4 0) ∷ [])
-
-unfoldable pub cases : List Case
-cases =
-    called 0 returned answers (0 ∷ 0 ∷ 0 ∷ 0 ∷ 22 ∷ 0 ∷ 0 ∷ 0 ∷ [])
-    ∷ called 0 waiting pieces (0 ∷ 2 ∷ 2 ∷ 1 ∷ 64 ∷ 1 ∷ 1 ∷ 4 ∷ 64 ∷ 2 ∷ 2 ∷ 1 ∷ 1 ∷ 2 ∷ 2 ∷ 1 ∷ 0 ∷ 2 ∷ 4 ∷ 2 ∷ 0 ∷ [])
-    ∷ called 1 waiting pieces (0 ∷ 1 ∷ 1 ∷ 1 ∷ 64 ∷ 2 ∷ 2 ∷ 3 ∷ 64 ∷ 1 ∷ 1 ∷ 2 ∷ 1 ∷ 1 ∷ 1 ∷ 1 ∷ 0 ∷ 2 ∷ 4 ∷ 2 ∷ 0 ∷ [])
-    ∷ called 0 returned pieces (1 ∷ 2 ∷ 2 ∷ 1 ∷ 0 ∷ 1 ∷ 1 ∷ 3 ∷ 0 ∷ 2 ∷ 2 ∷ 1 ∷ 2 ∷ 2 ∷ 2 ∷ 1 ∷ 2 ∷ 2 ∷ 4 ∷ 2 ∷ 2 ∷ 1 ∷ 1 ∷ 1 ∷ 0 ∷ [])
-    ∷ called 1 returned pieces (0 ∷ 1 ∷ 1 ∷ 1 ∷ 1 ∷ 1 ∷ 1 ∷ 1 ∷ 0 ∷ 2 ∷ 4 ∷ 2 ∷ 0 ∷ 2 ∷ 2 ∷ 1 ∷ 2 ∷ 1 ∷ 1 ∷ 2 ∷ 2 ∷ 2 ∷ 2 ∷ 2 ∷ 0 ∷ [])
-    ∷ called 2 returned pieces (0 ∷ 2 ∷ 2 ∷ 1 ∷ 1 ∷ 2 ∷ 2 ∷ 1 ∷ 0 ∷ 2 ∷ 4 ∷ 2 ∷ 0 ∷ 2 ∷ 2 ∷ 1 ∷ 2 ∷ 1 ∷ 1 ∷ 4 ∷ 1 ∷ [])
-    ∷ called 3 returned pieces (0 ∷ 1 ∷ 1 ∷ 1 ∷ 1 ∷ 1 ∷ 1 ∷ 1 ∷ 0 ∷ 2 ∷ 2 ∷ 1 ∷ 0 ∷ 1 ∷ 1 ∷ 2 ∷ 2 ∷ 2 ∷ 4 ∷ 2 ∷ 2 ∷ 2 ∷ 2 ∷ 2 ∷ 0 ∷ [])
-    ∷ []
-
-pub waited : map seen cases ≡ map (λ c. c.wanted) cases
-unfolding cases calls_on call_on number_of book_checks adds_up rules_fit all_zero every same balances_of tab places_in pieces_of flat opening transfer_checks lift_checks tip_checks takes taken take_up_to precedes asked_checks rows
-waited = refl

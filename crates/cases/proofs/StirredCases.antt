@@ -18,9 +18,10 @@ use Rattle.book.specs.Setting.{setting_checks}
 use Rattle.book.specs.Calls.{Call, lift, tip, ask}
 use Rattle.book.specs.Memory.{number_of, book_checks, call_on}
 use Rattle.book.specs.Reports.{asked_checks, rows}
-use Rattle.book.specs.Lists.{Journal, calls_on, stirs, sets_none}
-use Rattle.book.proofs.Cases.{Case, called, lent, seen, pieces, answers}
-use Rattle.book.proofs.Mixed.{give, set_to}
+use Rattle.book.specs.Lists.{Journal, calls_on, stirs}
+use Rattle.conservation.specs.Conservation.{sets_none}
+use Rattle.cases.proofs.Cases.{Case, called, lent, seen, pieces, answers}
+use Rattle.cases.proofs.Mixed.{give, set_to}
 
 -- four lots of vessel 0, of 5, 1, 1 and 3 grams, and four of 5
 abbrev lots : List Call

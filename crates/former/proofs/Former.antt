@@ -8,7 +8,7 @@ use Rattle.table.specs.Pieces.{held, All, done, also}
 use Rattle.table.specs.Table.{pieces_of}
 use Rattle.book.specs.declared.Head.{Head}
 use Rattle.book.specs.Head.{most_vessels, the_scale, balances_of, all_of, fits, every, same, adds_up, given_rules}
-use Rattle.book.specs.Former.{former_fits, former_tests}
+use Rattle.former.specs.Former.{former_fits, former_tests}
 use Rattle.book.proofs.RuleLaws.{given_fit}
 use Rattle.book.proofs.HeadLaws.{all_sound, in_vessels}
 

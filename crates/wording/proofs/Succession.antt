@@ -18,7 +18,7 @@ use Rattle.book.specs.Memory.{Outcome, outcome, book_checks, call_on}
 use Rattle.book.proofs.Sound.{own, number, SoundBook}
 use Rattle.book.proofs.Memory.{On, InStep, call_number, accepted_on, off_number, passed_book, book_passed, number_same, back, in_step}
 use Rattle.book.proofs.Known.{AddsUp, adds_up_told, adds_balance, adds_sound, adds_on}
-use Rattle.book.proofs.SecondScale.{Divides, lifted, second_scale}
+use Rattle.wording.proofs.SecondScale.{Divides, lifted, second_scale}
 
 -- What a transfer and its lift and tip in succession have in common, on the head h and the table t.
 pub record Succession (h : Head) (t : List ℕ) (x : Transfer) (whole up down : Outcome) : Type 0 where

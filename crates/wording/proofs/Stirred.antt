@@ -26,7 +26,7 @@ use Rattle.book.specs.Scale.{lift_motion}
 use Rattle.book.specs.Calls.{post, lift, answer_of, no_answer}
 use Rattle.book.specs.Memory.{Outcome, call_on}
 use Rattle.book.proofs.Memory.{call_number}
-use Rattle.book.proofs.InWords.{accepted_book}
+use Rattle.book.proofs.Accepted.{accepted_book}
 
 -- What a call o leaves of the pieces ps and the table t, where it moves m out of a stirred vessel that has more.
 pub record GivesFromAll (m : Move) (ps : List Piece) (t : List ℕ) (o : Outcome) : Type 0 where

@@ -11,7 +11,7 @@ use Rattle.book.specs.declared.Motion.{Motion}
 use Rattle.book.specs.Head.{Book}
 use Rattle.book.specs.Motion.{Standing, of_book, Terms, motion, book_after}
 use Rattle.book.specs.Calls.{Call, terms, enter, set_rule, ask, motion_on, posting_meaning, meaning}
-use Rattle.book.specs.WeighBook.{WeighBook, of_weigh, weighed, weighing, weigh_number, weigh_step, listed}
+use Rattle.conservation.specs.WeighBook.{WeighBook, of_weigh, weighed, weighing, weigh_number, weigh_step, listed}
 use Rattle.book.specs.Lists.{tips_in}
 use Rattle.book.proofs.Sound.{own, number, passed_own, takes_fair, held_after, Proper, proper, of_checks, posted_own, posted_count}
 use Rattle.table.specs.Table.{places_in}

@@ -1,0 +1,2 @@
+pub mod WeighBook
+pub mod Conservation

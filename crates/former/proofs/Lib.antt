@@ -1,0 +1,3 @@
+pub mod Former
+pub mod OneRule
+pub mod Ages

@@ -1,0 +1,30 @@
+-- THE SCALE. While nothing is on it, every tip is refused with 23, whatever else is amiss with it (`bare_refuses`; Load.antt has what is true while something
+-- is). A transfer leaves its weight as it was (`post_scale`).
+-- Assumes nothing.
+use Rattle.std.proofs.Common.{◌≡◌, refl, List, ℕ, arith, ◌∙◌}
+use Rattle.std.proofs.lemmas.Bool.Decides.{nat_tests}
+use Rattle.refusal.specs.Numbers.{first}
+use Rattle.book.specs.declared.Head.{Head}
+use Rattle.book.specs.declared.Transfer.{Transfer}
+use Rattle.book.specs.declared.Tip.{Tip}
+use Rattle.book.specs.Head.{the_scale, book_of}
+use Rattle.book.specs.Transfer.{motion_of}
+use Rattle.book.specs.Scale.{tip_checks}
+use Rattle.book.specs.Calls.{post, tip}
+use Rattle.book.specs.Memory.{book_checks, number_of, call_on}
+use Rattle.book.proofs.Memory.{on_number, book_passed}
+use Rattle.book.proofs.Known.{adds_up_told}
+use Rattle.book.proofs.Sound.{held_after}
+use Rattle.book.proofs.Accepted.{post_fit, accepted_book}
+
+-- on a head and a table that checks 1 and 4 let pass
+pub bare_refuses : (h : Head) (t : List ℕ) → first (book_checks h t) ≡ 0 → h.scale ≡ 0 → (y : Tip) → number_of h t (tip y) ≡ 23
+unfolding tip_checks
+bare_refuses h t e u y =
+    let a = adds_up_told h t (book_passed h t e).1 in
+    on_number h t (tip y) _ refl e ∙ rw (← a.scale_is, u)
+
+-- a transfer leaves the scale as it was
+pub post_scale : (h : Head) (t : List ℕ) (x : Transfer) → (call_on h t (post x)).head.scale ≡ h.scale
+unfolding call_on
+post_scale h t x = grind (arith, nat_tests, held_after (book_of h t) (motion_of x) the_scale, post_fit h t x, accepted_book h t (post x))
