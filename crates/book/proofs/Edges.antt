@@ -4,7 +4,7 @@
 -- Assumes nothing.
 use Rattle.std.proofs.Common.{◌≡◌, refl, false, cond, List, [], ◌∷◌, ◌++◌, map, ℕ, ◌≤◌, ◌<◌, ◌-◌, arith, eqb, length, replicate}
 use Rattle.std.proofs.lemmas.Bool.Decides.{nat_tests}
-use Rattle.table.specs.Table.{most_places, pieces_of, places_in}
+use Rattle.table.specs.Table.{most_places, pieces_of, places_in, places_of}
 use Rattle.refusal.specs.Numbers.{TOP, first}
 use Rattle.book.specs.declared.Head.{Head}
 use Rattle.book.specs.declared.Report.{Report}
@@ -217,6 +217,13 @@ edges =
     ∷ report Whole 0 gives 13
     ∷ report Whole 8 gives 13
     ∷ report Whole 9 gives 0
+    -- places: the length divided by 4, rounded down, but never above 4,096
+    ∷ places_of (replicate 3 9) gives 0
+    ∷ places_of (replicate 7 9) gives 1
+    ∷ places_of (replicate 8 9) gives 2
+    ∷ places_of (replicate 16383 9) gives 4095
+    ∷ places_of (replicate 16384 9) gives 4096
+    ∷ places_of (replicate 16388 9) gives 4096
     -- how many tips a list has
     ∷ tips (post (transfer_of 0 1 0 1 0) ∷ lift (lift_of 0 0 1 0) ∷ tip (tip_of 1 0) ∷ set_rule (setting_of 0 1) ∷ ask Whole [] ∷ tip (tip_of 1 0) ∷ []) gives 2
     ∷ []

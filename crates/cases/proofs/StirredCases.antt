@@ -93,6 +93,10 @@ unpicked =
     ∷ lift (lift_of 0 5 1 0)
     ∷ tip (tip_of 0 5)
     ∷ lift (lift_of 0 5 0 0)
+    ∷ give 2 1 5 1 0
+    ∷ give 0 1 5 4294967295 0
+    ∷ give 0 1 5 1 6
+    ∷ lift (lift_of 0 5 1 6)
     ∷ ask Whole (replicate 9 7)
     ∷ set_to 0 3
     ∷ give 0 1 5 1 0

@@ -1,7 +1,7 @@
 -- LISTS THAT NEVER USE RULE 4. A list in which no accepted call sets it makes no pick under it (`first_rules`), from any opening on. The idea: opening gives
 -- one of the four first rules, and only an accepted setting alters a vessel's.
 -- Assumes nothing.
-use Rattle.std.proofs.Common.{◌≡◌, refl, Bool, true, false, List, [], ◌∷◌, ℕ, zero, suc, arith, ne_eqb, length}
+use Rattle.std.proofs.Common.{◌≡◌, refl, Bool, true, false, List, [], ◌∷◌, ℕ, zero, suc, arith, ne_eqb, length, ◌≢◌}
 use Rattle.std.specs.List.{list_all}
 use borrow.Author.Tests.{eqb-false}
 use Rattle.book.specs.declared.Head.{Head}
@@ -14,11 +14,17 @@ use Rattle.book.proofs.RuleLaws.{Unstirred, given_unstirred, set_unstirred}
 use Rattle.book.proofs.Sound.{number, SoundBook}
 use Rattle.book.proofs.Along.{step, entry, from_opening}
 use Rattle.book.proofs.HeadLaws.{opening_passed, openable}
+use Rattle.std.proofs.lemmas.Bool.Decides.{nat_tests}
 
 -- where no vessel has the rule, no call makes a pick under it
 pub asks_none : (b : Book) → Unstirred b.rules → (c : Call) (n : ℕ) → (meaning c).stirs b n ≡ false
 asks_none b none (enter p) n = rw (ne_eqb _ _ (none (terms p).source)) refl
 asks_none b none c n = refl
+
+-- A call makes a pick only where it is accepted or refused by 11: whatever else refuses it, 10 among them, comes before the pick.
+pub stirred_picks : (b : Book) (c : Call) (n : ℕ) → n ≢ 0 → n ≢ 11 → (meaning c).stirs b n ≡ false
+stirred_picks b (enter p) n accepted full = grind (arith, nat_tests)
+stirred_picks b c n accepted full = refl
 
 -- an accepted call that sets none leaves none
 still_unstirred : (b : Book) (c : Call) → sets_stirred c ≡ false → Unstirred b.rules → Unstirred ((meaning c).next b).rules

@@ -28,7 +28,7 @@ use Rattle.book.specs.Transfer.{motion_of}
 use Rattle.book.specs.Scale.{lift_motion, tip_terms}
 use Rattle.book.specs.Setting.{setting_checks, ruled}
 use Rattle.book.specs.Reports.{report_row}
-use Rattle.book.specs.Calls.{Call, post, lift, tip, set_rule, ask, Answer, no_answer, motion_on, meaning}
+use Rattle.book.specs.Calls.{Call, post, lift, tip, set_rule, ask, Answer, no_answer, motion_on, meaning, enter}
 use Rattle.book.specs.Memory.{number_of, book_checks, call_on}
 use Rattle.book.proofs.RuleLaws.{set_at, set_others}
 use Rattle.book.proofs.Checks.{setting_fit}
@@ -78,9 +78,15 @@ module _ (h : Head) (t : List ℕ) where
   unfolding call_on
   report_in_words q room z = let e = sym (call_number h t (ask q room)) ∙ z in rw (e, all_pass ps) (take_at (report_row h.vessels ps q) _ _ refl, drop_at (report_row h.vessels ps q) _ _ refl)
 
-  -- "A refusal returns its number with all other answer numbers 0 and the head as given; no lent memory changes", the room of a report neither.
-  pub refused_in_words : (c : Call) → ((call_on h t c).number ≡ 0 → ⊥) → ((call_on h t c).answer ≡ ((meaning c).refused (call_on h t c).number (length t) (book_of h t)).answer) × ((call_on h t c).head ≡ h) × ((call_on h t c).table ≡ t)
-  refused_in_words c nz = rw (refused_on h t c _ (sym (call_number h t c)) nz) (refl, refl, refl)
+  -- A refusal returns its number with all other answer numbers 0 and the head as given; no lent memory changes, the room of a report neither.
+  no_answers : (c : Call) (n : ℕ) → ((meaning c).refused n (length t) (book_of h t)).answer ≡ no_answer
+  no_answers (enter p) n = refl
+  no_answers (set_rule s) n = refl
+  no_answers (ask q room) n = refl
+
+  pub refused_in_words : (c : Call) → ((call_on h t c).number ≡ 0 → ⊥)
+      → ((call_on h t c).answer ≡ no_answer) × ((call_on h t c).head ≡ h) × ((call_on h t c).table ≡ t)
+  refused_in_words c nz = rw (refused_on h t c _ (sym (call_number h t c)) nz) (no_answers c _, refl, refl)
 
   pub report_refused : (q : Report) (room : List ℕ) → ((call_on h t (ask q room)).number ≡ 0 → ⊥) → (call_on h t (ask q room)).room ≡ room
   report_refused q room nz = rw (refused_on h t (ask q room) _ (sym (call_number h t (ask q room))) nz)
