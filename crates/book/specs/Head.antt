@@ -51,16 +51,7 @@ balance_at h v = cond (eqb v the_scale) h.scale (get_or h.balances v 0)
 unfoldable pub with_balance : Head → ℕ → ℕ → Head
 with_balance h v w =
     let scaled = eqb v the_scale in
-    record {
-      rule = h.rule;
-      vessels = h.vessels;
-      pieces = h.pieces;
-      last = h.last;
-      accepted = h.accepted;
-      balances = cond scaled h.balances (set h.balances v w);
-      scale = cond scaled w h.scale;
-      rules = h.rules;
-    }
+    record h { balances = cond scaled h.balances (set h.balances v w); scale = cond scaled w h.scale }
 
 -- the head after a holder gave weight and another received weight
 abbrev pub shifted : Head → ℕ → ℕ → ℕ → ℕ → Head

@@ -3,7 +3,6 @@
 use Rattle.std.specs.Prelude.{Bool, true, false, ◌||◌, if◌then◌else◌, List, [], ◌∷◌, ℕ, ◌+◌, ◌-◌}
 use Rattle.refusal.specs.Numbers.{if_zero}
 use Rattle.book.specs.declared.Head.{Head}
-use Rattle.book.specs.Head.{Book}
 use Rattle.book.specs.Calls.{Call, enter, set_rule, terms, meaning}
 use Rattle.book.specs.Memory.{Outcome, call_on}
 
@@ -40,11 +39,6 @@ all_asked (e ∷ es) = e.asked ∷ all_asked es
 abbrev pub answered : List Entry → List Call
 answered [] = []
 answered (e ∷ es) = if_zero e.number (e.asked ∷ answered es) (answered es)
-
--- the book after these calls, where each in turn does to it what is said of the call
-unfoldable pub follow : Book → List Call → Book
-follow b [] = b
-follow b (c ∷ cs) = follow ((meaning c).next b) cs
 
 -- how many of the calls are transfers, lifts counted
 abbrev pub transfers : List Call → ℕ

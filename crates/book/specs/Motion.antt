@@ -56,5 +56,4 @@ pieces_after b m = handed m.moves (takes b m)
 
 -- The book afterwards: "accepted goes up by 1", where it counts as a transfer, "and the last minute is t".
 abbrev pub book_after : Book → Motion → Book
-book_after b m =
-    record { rule = b.rule; vessels = b.vessels; last = m.minute; accepted = b.accepted + m.counts; rules = b.rules; pieces = pieces_after b m }
+book_after b m = record b { last = m.minute; accepted = b.accepted + m.counts; pieces = pieces_after b m }

@@ -15,18 +15,8 @@ setting_checks size s = 5 if leb size s.vessel ∷ 2 if not (known_rule s.rule) 
 
 -- The vessel has that rule, and nothing else changes: neither the book's rule nor its last minute, its count or its pieces.
 abbrev pub with_rule : Book → Setting → Book
-with_rule b s = record { rule = b.rule; vessels = b.vessels; last = b.last; accepted = b.accepted; rules = set b.rules s.vessel s.rule; pieces = b.pieces }
+with_rule b s = record b { rules = set b.rules s.vessel s.rule }
 
 -- and so with the head in memory
 unfoldable pub ruled : Head → Setting → Head
-ruled h s =
-    record {
-      rule = h.rule;
-      vessels = h.vessels;
-      pieces = h.pieces;
-      last = h.last;
-      accepted = h.accepted;
-      balances = h.balances;
-      scale = h.scale;
-      rules = set h.rules s.vessel s.rule;
-    }
+ruled h s = record h { rules = set h.rules s.vessel s.rule }

@@ -6,7 +6,8 @@ use Rattle.table.specs.Table.{places_of, places_in}
 use Rattle.book.specs.Head.{Book, opened, opening}
 use Rattle.book.specs.Calls.{Call, meaning}
 use Rattle.conservation.specs.WeighBook.{WeighBook, weighing, blank, feed, forecast}
-use Rattle.book.specs.Lists.{Entry, Journal, calls_on, all_asked, answered, follow, transfers, tips, evens, stirs}
+use Rattle.book.specs.Lists.{Entry, Journal, calls_on, all_asked, answered, transfers, tips, evens, stirs}
+use Rattle.conservation.specs.Conservation.{follow}
 use Rattle.conservation.specs.Conservation.{numbers, Demand3}
 use Rattle.book.proofs.Sound.{number, SoundBook, keeps, count_kept}
 use Rattle.conservation.proofs.Beside.{Beside, Walks, walks}

@@ -6,10 +6,15 @@ use Rattle.std.specs.List.{list_all}
 use Rattle.table.specs.Pieces.{sum, born_at, held}
 use Rattle.table.specs.Table.{places_of}
 use Rattle.taking.specs.Stirring.{stirred_rule}
-use Rattle.book.specs.Head.{book_of, adds_up, opened}
-use Rattle.book.specs.Calls.{Call, set_rule}
-use Rattle.book.specs.Lists.{Entry, Journal, answered, follow, transfers, tips, evens, stirs}
+use Rattle.book.specs.Head.{book_of, adds_up, opened, Book}
+use Rattle.book.specs.Calls.{Call, set_rule, meaning}
+use Rattle.book.specs.Lists.{Entry, Journal, answered, transfers, tips, evens, stirs}
 use Rattle.conservation.specs.WeighBook.{blank, feed, listed, forecast}
+
+-- the book after these calls, where each in turn does to it what is said of the call
+unfoldable pub follow : Book → List Call → Book
+follow b [] = b
+follow b (c ∷ cs) = follow ((meaning c).next b) cs
 
 -- the numbers of a journal's transfers, lifts and tips
 abbrev pub numbers : List Entry → List ℕ

@@ -28,7 +28,7 @@ former_posting p =
     record (posting_meaning p) {
       checks = λ len b. p.checks (of_book b) ++ place_checks p.counts (places_in len) (former_pieces b (motion_on p b).moves);
       told = λ b. record { answer = answer_of (former_takes b (motion_on p b).moves); room = [] };
-      next = λ b. record { rule = b.rule; vessels = b.vessels; last = p.minute; accepted = b.accepted + p.counts; rules = b.rules; pieces = former_pieces b (motion_on p b).moves };
+      next = λ b. record b { last = p.minute; accepted = b.accepted + p.counts; pieces = former_pieces b (motion_on p b).moves };
       table = λ b. lay (former_pieces b (motion_on p b).moves);
       even = λ b. if_zero p.counts 0 (even_of (answer_of (former_takes b (motion_on p b).moves)));
     }

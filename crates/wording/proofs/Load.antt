@@ -120,7 +120,7 @@ tip_comes_last cs h t y loaded u e =
 
 -- the book without the pieces on the scale
 abbrev pub unloaded : Book → Book
-unloaded b = record { rule = b.rule; vessels = b.vessels; last = b.last; accepted = b.accepted; rules = b.rules; pieces = elsewhere the_scale b.pieces }
+unloaded b = record b { pieces = elsewhere the_scale b.pieces }
 
 module _ (b : Book) (x : Transfer) (source : the_scale ≢ x.source) (destination : the_scale ≢ x.destination) where
   apart_next : (meaning (post x)).next (unloaded b) ≡ unloaded ((meaning (post x)).next b)
