@@ -1,23 +1,14 @@
--- What moving the pieces answers, and the table that it leaves. The table is full where the pieces afterwards would exceed the places.
+-- What moving the pieces asks of a table, and the table that it leaves.
 -- Definitions only. Assumes nothing.
-use Rattle.std.specs.Prelude.{◌≡◌, Bool, cond, Option, None, Some, List, ℕ, ◌+◌, ◌*◌, ◌≤◌, ◌<◌, ltb, length}
+use Rattle.std.specs.Prelude.{◌≡◌, cond, Option, List, ℕ, ◌+◌, ◌*◌, ◌≤◌, ◌<◌, length}
 use Rattle.table.specs.Pieces.{All}
 use Rattle.table.specs.Table.{most_places, pieces_of, lay}
 use Rattle.table.specs.Closing.{VACANT, Present}
+use Rattle.taking.specs.declared.Applied.{Applied}
 use Rattle.taking.specs.declared.Move.{Move}
 use Rattle.taking.specs.Taken.{Taken}
 use Rattle.taking.specs.Taking.{handed}
-use Rattle.moving.specs.declared.Applied.{Applied}
-
-abbrev pub full : ℕ → Move → Taken → Bool
-full places m r = ltb places (length (handed m r))
-
-abbrev pub accepted : Move → Taken → Applied
-accepted m r = record { whole = r.whole; split = r.split; born = r.born; count = length (handed m r) }
-
--- the answer, where r is taken
-unfoldable pub applied : ℕ → Move → Taken → Option Applied
-applied places m r = cond (full places m r) None (Some (accepted m r))
+use Rattle.taking.specs.Applied.{full, applied}
 
 -- the table that is left of t
 unfoldable pub table_left : ℕ → Move → Taken → List ℕ → List ℕ
