@@ -12,7 +12,7 @@ use Rattle.book.specs.Head.{same}
 use Rattle.book.specs.Transfer.{most_age}
 use Rattle.book.proofs.HeadLaws.{same_eq}
 use Rattle.fields.specs.Layout.{name_size, header_size, mark, mark_size, rule_at, vessels_at, movements_at, names_at, entries_at, length_at, entries_start, sheet_size, movements_off}
-use Rattle.names.specs.Names.{names_in, names_off}
+use Rattle.fields.specs.Names.{names_in, names_off}
 use Rattle.fields.specs.Movements.{given_size, entry_size, no_entry, given_in, entry_in, entries_given, entries_bytes, given_checks, entries_checks, numbers_in}
 use Rattle.sheet.specs.Sheet.{names_of, entries_read, rule_of, vessels_of, movements_of, no_sheet, read_number}
 use Rattle.sheet.specs.Answers.{movement_answer, movement_at}

@@ -6,7 +6,7 @@
 -- Each byte of a `u8` slice is below 256, and each number of a `u32` slice below 4,294,967,296: `Below` says so of a list. Assumes nothing.
 use Rattle.std.proofs.Common.{ℕ, ◌*◌, ◌<◌, ◌≤◌, ◌≡◌, refl, List, length, take, drop}
 use Rattle.fields.specs.Layout.{name_size, sheet_size}
-use Rattle.names.specs.Names.{short_name}
+use Rattle.fields.specs.Names.{short_name}
 use Rattle.fields.specs.Movements.{given_size, given_in}
 use Rattle.sheet.specs.Sheet.{names_of, rule_of, vessels_of, movements_of, read_number}
 use Rattle.sheet.specs.Answers.{reading, movement_answer, movement_at, movement_asked, name_bytes, name_asked}

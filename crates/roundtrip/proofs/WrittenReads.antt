@@ -6,7 +6,7 @@ use Rattle.refusal.specs.Numbers.{first}
 use Rattle.refusal.proofs.Numbers.{passes}
 use Rattle.fields.specs.Bytes.{value_in, bytes_of}
 use Rattle.fields.specs.Layout.{name_size, most_movements, header_size, mark, mark_size, names_at, entries_at, length_at, entries_start, sheet_size, movements_off}
-use Rattle.names.specs.Names.{names_in}
+use Rattle.fields.specs.Names.{names_in}
 use Rattle.fields.specs.Movements.{given_size, no_entry, given_in, entries_in, entries_given, entries_bytes, entry_checks, entries_checks}
 use Rattle.book.specs.Head.{last_rule, most_vessels}
 use Rattle.book.proofs.HeadLaws.{same_refl}

@@ -3,7 +3,7 @@
 use Rattle.std.proofs.Common.{ℕ, ◌≡◌, refl, Bool, true, false, List, [], ◌∷◌, map}
 use Rattle.book.specs.Head.{same, all_zero}
 use Rattle.fields.specs.Bytes.{exists}
-use Rattle.names.specs.Names.{letters, well_formed, names_off}
+use Rattle.fields.specs.Names.{letters, well_formed, names_off}
 
 -- Names, and whether they are refused.
 pub record Case : Type 0 where

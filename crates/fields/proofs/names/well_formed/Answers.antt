@@ -2,8 +2,8 @@
 use Rattle.std.proofs.Common.{rules, tests, eqb}
 use Rattle.std.proofs.lemmas.Iterator.{YieldsList-from_slice}
 use Rattle.std.proofs.lemmas.Iterator.Search.{all_from_yields_List}
-use Rattle.names.proofs.NameLaws.{some_letters}
-use Rattle.names.proofs.well_formed.Goals as goal
+use Rattle.fields.proofs.NameLaws.{some_letters}
+use Rattle.fields.proofs.names.well_formed.Goals as goal
 
 pub returns-then-not-is_empty : goal.returns-then-not-is_empty
 returns-then-not-is_empty c =

@@ -1,10 +1,8 @@
 // The names of the vessels, eight bytes each: 1 to 8 bytes of 21 to 7E hexadecimal, then zeros.
-#![tactic(auto)]
-
 ghost use Rattle.std.specs.Prelude.{◌≡◌, ◌≤◌, length};
-ghost use Rattle.names.specs.Names.{letters, well_formed, name_off, names_off};
+ghost use Rattle.fields.specs.Names.{letters, well_formed, name_off, names_off};
 
-use fields::layout::NAME_SIZE;
+use crate::layout::NAME_SIZE;
 
 // How many bytes of 21 to 7E hexadecimal the name begins with.
 pub fn letter_count(name: &[u8]) -> usize

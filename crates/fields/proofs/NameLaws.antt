@@ -7,7 +7,7 @@ use Rattle.std.specs.Cmp.Lexicographic.{pointwise}
 use Rattle.std.specs.List.{list_all, list_any, prefix_len}
 use Rattle.book.specs.Head.{all_zero}
 use Rattle.fields.specs.Bytes.{exists}
-use Rattle.names.specs.Names.{letters, well_formed, used_in, name_off, names_off, names_in}
+use Rattle.fields.specs.Names.{letters, well_formed, used_in, name_off, names_off, names_in}
 use Rattle.fields.specs.Layout.{name_size}
 use Rattle.std.specs.Simd.{first_chunks}
 use Rattle.fields.proofs.ChunkLaws.{chunks_taken}

@@ -6,8 +6,8 @@ use Rattle.std.proofs.lemmas.Iterator.Search.{YieldsList-from_take_while}
 use Rattle.std.proofs.lemmas.List.Folds.{length-prefix_len}
 use Rattle.std.proofs.lemmas.List.Sums.{prefix_len-le-length}
 use Rattle.std.specs.Char.{is_ascii_graphic}
-use Rattle.names.proofs.NameLaws.{letters_counted}
-use Rattle.names.proofs.letter_count.Goals as goal
+use Rattle.fields.proofs.NameLaws.{letters_counted}
+use Rattle.fields.proofs.names.letter_count.Goals as goal
 
 pub returns : goal.returns
 returns c =
