@@ -10,8 +10,8 @@ use Rattle.book.specs.Head.{most_vessels, is_holder, tab}
 use Rattle.book.specs.declared.Report.TheVariants.{Whole}
 use Rattle.book.specs.Reports.{from_origin, held_row, rows, report_row, onto}
 use Rattle.book.proofs.BalanceLaws.{tab_append, tab_same}
-use Rattle.filling.specs.Scatter.{off_scale, cell_of, tally, one_pass}
-use Rattle.filling.proofs.Scattered.{tally_kind, scattered}
+use Rattle.reports.specs.Scatter.{off_scale, cell_of, tally, one_pass}
+use Rattle.reports.proofs.Scattered.{tally_kind, scattered}
 
 -- a row ends where the next one starts, or before
 row_below : (m v w : ℕ) → v < w → v * m + m ≤ w * m

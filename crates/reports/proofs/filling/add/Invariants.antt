@@ -1,7 +1,7 @@
 -- `filling::add` meets its contract. The invariant: the pieces left can be entered, and entering them makes the report that is wanted.
 use Rattle.std.proofs.Common.{◌≡◌}
-use Rattle.filling.specs.Scatter.{scatter, Fillable}
-use Rattle.filling.proofs.add.Given as goal
+use Rattle.reports.specs.Scatter.{scatter, Fillable}
+use Rattle.reports.proofs.filling.add.Given as goal
 
 abbrev pub invariant-loop-p : goal.invariant-loop-p
 invariant-loop-p g l =

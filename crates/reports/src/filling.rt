@@ -1,12 +1,10 @@
 // What a report writes, at the start of room that the caller lends: one pass over the pieces, which adds each that counts at its number; whole also
 // row by row.
-#![tactic(auto)]
-
 ghost use Rattle.std.specs.Prelude.{◌≡◌, ◌≤◌, ◌*◌, Bool, if◌then◌else◌, ℕ, length};
 ghost use Rattle.table.specs.declared.Piece.{Piece};
 ghost use Rattle.refusal.specs.Numbers.{first};
 ghost use Rattle.book.specs.Reports.{held_row, spread_row, rows, report_row, report_checks, onto};
-ghost use Rattle.filling.specs.Scatter.{held_by, born, off_scale, origin_of, holder_of, cell_of, entered, scatter, Enterable, Fillable, Tallied, one_pass, Reportable};
+ghost use Rattle.reports.specs.Scatter.{held_by, born, off_scale, origin_of, holder_of, cell_of, entered, scatter, Enterable, Fillable, Tallied, one_pass, Reportable};
 
 use book::{Report, SCALE};
 use table::Piece;
@@ -112,7 +110,7 @@ fn fill_pass<T: Tally>(pieces: &Pieces, tally: &T, report: &mut [u32])
 }
 
 // The held report of a vessel: a number for each vessel.
-#[tactic(auto, using(crate::proofs::Filling::held_tallied, crate::proofs::Filling::held_filled))]
+#[tactic(auto, using(crate::proofs::Filled::held_tallied, crate::proofs::Filled::held_filled))]
 fn fill_held(pieces: &Pieces, vessel: u32, row: &mut [u32])
     requires { Reportable (length row.old) pieces.now }
     ensures { row.new ≡ held_row (length row.old) vessel pieces.now }
@@ -121,7 +119,7 @@ fn fill_held(pieces: &Pieces, vessel: u32, row: &mut [u32])
 }
 
 // The spread report of an origin's births in a span: a number for each vessel.
-#[tactic(auto, using(crate::proofs::Filling::spread_tallied, crate::proofs::Filling::spread_filled))]
+#[tactic(auto, using(crate::proofs::Filled::spread_tallied, crate::proofs::Filled::spread_filled))]
 fn fill_spread(pieces: &Pieces, origin: u32, from: u32, to: u32, row: &mut [u32])
     requires { Reportable (length row.old) pieces.now }
     ensures { row.new ≡ spread_row (length row.old) origin from to pieces.now }
@@ -130,7 +128,7 @@ fn fill_spread(pieces: &Pieces, origin: u32, from: u32, to: u32, row: &mut [u32]
 }
 
 // The rows of all vessels, in one pass.
-#[tactic(auto, using(crate::proofs::Filling::whole_tallied, crate::proofs::Filling::whole_filled))]
+#[tactic(auto, using(crate::proofs::Filled::whole_tallied, crate::proofs::Filled::whole_filled))]
 fn fill_whole(pieces: &Pieces, vessels: u32, report: &mut [u32])
     requires { (length report.old ≡ vessels * vessels) × Reportable vessels pieces.now }
     ensures { report.new ≡ rows vessels 0 vessels pieces.now }
@@ -139,7 +137,7 @@ fn fill_whole(pieces: &Pieces, vessels: u32, report: &mut [u32])
 }
 
 // The same at the start of the room, row by row: each row, by its place in the room, is lent to the held report of its vessel.
-#[tactic(auto, using(crate::proofs::Filling::rows_none, crate::proofs::Filling::rows_next))]
+#[tactic(auto, using(crate::proofs::Filled::rows_none, crate::proofs::Filled::rows_next))]
 pub fn fill_rows(pieces: &Pieces, vessels: u32, report: &mut [u32])
     requires { (vessels * vessels ≤ length report.old) × Reportable vessels pieces.now }
     ensures { report.new ≡ onto (rows vessels 0 vessels pieces.now) report.old }
@@ -153,7 +151,7 @@ pub fn fill_rows(pieces: &Pieces, vessels: u32, report: &mut [u32])
 
 // What is asked, at the start of room that its checks found long enough. Pieces, count of vessels and room are parameters of their own here and
 // above: the pieces are read, the room is written, and that they fit is known of a book that adds up, not of one of them.
-#[tactic(auto, using(crate::proofs::Filling::room_laws))]
+#[tactic(auto, using(crate::proofs::Filled::room_laws))]
 pub fn fill(pieces: &Pieces, vessels: u32, asked: Report, room: &mut [u32])
     requires { (first (report_checks vessels (length room.old) asked) ≡ 0) × Reportable vessels pieces.now }
     ensures { room.new ≡ onto (report_row vessels pieces.now asked) room.old }

@@ -11,9 +11,9 @@ use Rattle.refusal.specs.Numbers.{TOP}
 use Rattle.book.specs.Reports.{from_origin, held_row, born_within, spread_row, rows, onto}
 use Rattle.book.proofs.BalanceLaws.{length_tab, tab_same}
 use Rattle.book.proofs.ReportLaws.{length_row, length_rows, held_room, spread_room, whole_room}
-use Rattle.filling.specs.Scatter.{held_by, born, off_scale, origin_of, holder_of, cell_of, tally, Tallied, one_pass, Reportable}
-use Rattle.filling.proofs.Scattered.{tally_kind, scattered}
-use Rattle.filling.proofs.Square.{tally_square, in_a_vessel, cells_inside, rows_in_one_pass}
+use Rattle.reports.specs.Scatter.{held_by, born, off_scale, origin_of, holder_of, cell_of, tally, Tallied, one_pass, Reportable}
+use Rattle.reports.proofs.Scattered.{tally_kind, scattered}
+use Rattle.reports.proofs.Square.{tally_square, in_a_vessel, cells_inside, rows_in_one_pass}
 
 -- What the passes over a book's pieces ask: the pieces that one counts at an index are some of those that a vessel holds.
 narrower : (j k : Kind) → ((h o b : ℕ) → j h o b ≡ true → k h o b ≡ true) → (ps : List Piece) → sum j ps ≤ sum k ps

@@ -2,7 +2,7 @@
 -- A turn lends row v to the held report.
 use Rattle.std.proofs.Common.{◌*◌, ◌≡◌, ◌++◌, drop}
 use Rattle.book.specs.Reports.{rows}
-use Rattle.filling.proofs.fill_rows.Given as goal
+use Rattle.reports.proofs.filling.fill_rows.Given as goal
 
 abbrev pub invariant-loop-v : goal.invariant-loop-v
 invariant-loop-v l = l.report ≡ rows l.vessels 0 l.v l.pieces ++ drop (l.v * l.vessels) l.initial.report

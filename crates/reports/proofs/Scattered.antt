@@ -10,7 +10,7 @@ use Rattle.table.specs.Pieces.{only, Kind, sum, All, done, also}
 use Rattle.table.proofs.Pieces.{all_head, all_tail, all_map}
 use Rattle.book.specs.Head.{tab}
 use Rattle.book.specs.Reports.{onto}
-use Rattle.filling.specs.Scatter.{cleared, entered, scatter, tally, Enterable, Fillable, Tallied}
+use Rattle.reports.specs.Scatter.{cleared, entered, scatter, tally, Enterable, Fillable, Tallied}
 use Rattle.book.proofs.BalanceLaws.{length_tab}
 use Rattle.book.proofs.ReportLaws.{row_at}
 
