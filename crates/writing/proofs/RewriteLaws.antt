@@ -21,10 +21,10 @@ use Rattle.sheet.specs.Answers.{header_numbers, asked_number}
 use Rattle.sheet.proofs.ReadLaws.{Laid, good}
 use Rattle.sheet.proofs.AnswerLaws.{asked_good}
 use Rattle.writing.specs.Writing.{count_given, write_number, written}
-use Rattle.roundtrip.specs.Rewriting.{numbers_of, rewrite_number, rewritten}
-use Rattle.roundtrip.proofs.TakenNumbers.{count}
-use Rattle.roundtrip.proofs.ReadRewrites as again
-use Rattle.roundtrip.proofs.RoundTrip.{read_rewrites}
+use Rattle.writing.specs.Rewriting.{numbers_of, rewrite_number, rewritten}
+use Rattle.writing.proofs.TakenNumbers.{count}
+use Rattle.writing.proofs.ReadRewrites as again
+use Rattle.writing.proofs.RoundTrip.{read_rewrites}
 
 -- What `rewrite` gives back and leaves.
 abbrev pub Again : List ℕ → List ℕ → ℕ → List ℕ → Type 0

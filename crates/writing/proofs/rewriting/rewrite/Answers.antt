@@ -1,8 +1,8 @@
 -- Refused by the sheet's own number. Else the memory holds the numbers of any sheet, and what was read is written.
 -- That each byte of the sheet is below 256 is known of any slice of bytes.
 use Rattle.std.proofs.Common.{arith, rules}
-use Rattle.roundtrip.proofs.RewriteLaws.{again_refused, few, again_good}
-use Rattle.roundtrip.proofs.rewrite.Goals as goal
+use Rattle.writing.proofs.RewriteLaws.{again_refused, few, again_good}
+use Rattle.writing.proofs.rewriting.rewrite.Goals as goal
 
 pub returns-in_err-known : goal.returns-in_err-known
 returns-in_err-known c =

@@ -1,7 +1,7 @@
 -- `take_numbers`: what its invariant leaves to show.
 use Rattle.std.proofs.Common.{arith}
-use Rattle.roundtrip.proofs.TakenNumbers.{there, numbers_turn, numbers_end}
-use Rattle.roundtrip.proofs.take_numbers.Goals as goal
+use Rattle.writing.proofs.TakenNumbers.{there, numbers_turn, numbers_end}
+use Rattle.writing.proofs.rewriting.take_numbers.Goals as goal
 
 pub bounds-taken-i : goal.bounds-taken-i
 bounds-taken-i c = there c.args.sheet.now _ _ _ c.loop-i.invariant _ c.header-i-end.ensures c.loop-i-test.true

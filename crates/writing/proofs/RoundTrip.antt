@@ -11,11 +11,11 @@ use Rattle.fields.specs.Movements.{given_size, given_in}
 use Rattle.sheet.specs.Sheet.{names_of, rule_of, vessels_of, movements_of, read_number}
 use Rattle.sheet.specs.Answers.{reading, movement_answer, movement_at, movement_asked, name_bytes, name_asked}
 use Rattle.writing.specs.Writing.{count_given, sheet_of, write_number, written}
-use Rattle.roundtrip.specs.Rewriting.{numbers_of}
+use Rattle.writing.specs.Rewriting.{numbers_of}
 use Rattle.writing.proofs.WriteLaws.{write_starts}
 use Rattle.fields.proofs.BackLaws.{Below}
-use Rattle.roundtrip.proofs.WrittenReads as there
-use Rattle.roundtrip.proofs.ReadRewrites as again
+use Rattle.writing.proofs.WrittenReads as there
+use Rattle.writing.proofs.ReadRewrites as again
 
 -- What reading and asking give for a sheet of that rule and these vessels, names and numbers.
 pub record ReadBack (rule vessels : ℕ) (names numbers s : List ℕ) : Type 0 where

@@ -17,7 +17,7 @@ use Rattle.fields.specs.Movements.{given_size, entry_size, no_entry, given_in, e
 use Rattle.sheet.specs.Sheet.{names_of, entries_read, rule_of, vessels_of, movements_of, no_sheet, read_number}
 use Rattle.sheet.specs.Answers.{movement_answer, movement_at}
 use Rattle.writing.specs.Writing.{count_given, header_bytes, sheet_of, given_off, count_checks, content_checks, room_check, write_number}
-use Rattle.roundtrip.specs.Rewriting.{numbers_of}
+use Rattle.writing.specs.Rewriting.{numbers_of}
 use Rattle.fields.proofs.GroupLaws.{group_at, length_groups, groups_append}
 use Rattle.sheet.proofs.HeaderLaws.{counts_pass}
 use Rattle.sheet.proofs.ReadLaws.{Laid, good, good_names, good_entries}

@@ -1,11 +1,9 @@
 // The round trip of a movement sheet: what was read is written again. proofs/RoundTrip.antt has it of both ways.
-#![tactic(auto)]
-
 ghost use Rattle.std.specs.Prelude.{◌≡◌, ◌++◌, length, map, drop};
 ghost use Rattle.refusal.specs.Refusals.{outcome_number};
 ghost use Rattle.fields.specs.Movements.{entry_numbers};
 ghost use Rattle.sheet.specs.Sheet.{movements_of, entries_read};
-ghost use Rattle.roundtrip.specs.Rewriting.{rewrite_number, rewritten};
+ghost use Rattle.writing.specs.Rewriting.{rewrite_number, rewritten};
 
 use fields::entries::Entry;
 use fields::layout::{GIVEN_SIZE, MOST_MOVEMENTS};
@@ -38,5 +36,5 @@ pub fn rewrite(sheet: &[u8], out: &mut [u8]) -> Result<(), Refusal>
     let mut taken = [[0u32; GIVEN_SIZE]; MOST_MOVEMENTS];
     take_numbers(&known, &mut taken);
     let given = taken[..header.movements as usize].as_flattened();
-    writing::try_write(header.rule, header.vessels, known.names(), given, out)
+    crate::try_write(header.rule, header.vessels, known.names(), given, out)
 }
