@@ -10,8 +10,9 @@ use Rattle.table.proofs.Pieces.{all_map}
 use Rattle.table.proofs.Table.{places_fit}
 use Rattle.taking.specs.Taken.{Taken}
 use Rattle.taking.specs.Taking.{handed, taken}
-use Rattle.moving.specs.declared.Applied.{Applied}
-use Rattle.moving.specs.Applied.{accepted, applied, Ready, Moves}
+use Rattle.taking.specs.declared.Applied.{Applied}
+use Rattle.taking.specs.Applied.{accepted, applied}
+use Rattle.moving.specs.Moves.{Ready, Moves}
 use Rattle.refusal.specs.Numbers.{first}
 use Rattle.book.specs.declared.Head.{Head}
 use Rattle.book.specs.declared.Motion.{Motion}

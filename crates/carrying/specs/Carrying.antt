@@ -4,8 +4,9 @@
 use Rattle.std.specs.Prelude.{◌≡◌, ◌≢◌, true, List, ℕ, ◌+◌, ◌-◌, ◌≤◌, ◌<◌, length, Option, None, Some, Result, Ok, Err}
 use Rattle.refusal.specs.Numbers.{TOP}
 use Rattle.table.specs.Table.{most_places, places_of}
-use Rattle.moving.specs.declared.Applied.{Applied}
-use Rattle.moving.specs.Applied.{applied, table_left}
+use Rattle.taking.specs.declared.Applied.{Applied}
+use Rattle.taking.specs.Applied.{applied}
+use Rattle.moving.specs.Moves.{table_left}
 use Rattle.book.specs.declared.Head.{Head}
 use Rattle.book.specs.declared.Motion.{Motion}
 use Rattle.carrying.specs.declared.Carried.{Carried}

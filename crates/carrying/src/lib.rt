@@ -9,9 +9,9 @@ ghost use Rattle.carrying.specs.Carrying.{Audited, Carriable, next_head, Countab
 
 use book::{Head, Lift, Motion, SCALE, Tip, Transfer};
 use ledger::{balances, rules};
-use moving::{Applied, Holding, Workspace};
+use moving::{Holding, Workspace};
 use refusal::Refusal;
-use taking::Move;
+use taking::{Applied, Move};
 
 // What a motion leaves of a book that had a place for its pieces: the next head, how many pieces moved whole, how many were split, the weight born.
 #[derive(Clone, Copy, Debug, PartialEq, Eq)]

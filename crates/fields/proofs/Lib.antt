@@ -6,3 +6,5 @@ pub mod ChunkLaws
 pub mod EntryLaws
 pub mod PutLaws
 pub mod BackLaws
+pub mod NameLaws
+pub mod WhichNames

@@ -1,3 +1,4 @@
 pub mod Bytes
 pub mod Movements
 pub mod Layout
+pub mod Names

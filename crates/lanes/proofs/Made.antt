@@ -7,12 +7,12 @@ use Rattle.table.specs.Pieces.{of_weight, hand_to}
 use Rattle.taking.specs.declared.Move.{Move}
 use Rattle.taking.specs.Taking.{newborn, taken, handed}
 use Rattle.taking.specs.Stirring.{stirred_rule}
-use Rattle.picking.specs.declared.plan.Plan.{Plan}
 use Rattle.lanes.specs.Notes.{latest, Once}
 use Rattle.lanes.specs.Order.{at_slot}
 use Rattle.lanes.specs.Keys.{last_minute}
 use Rattle.lanes.specs.Chains.{start, link, Chain}
 use Rattle.lanes.specs.declared.Store.{Store}
+use Rattle.lanes.specs.declared.moves.Progress.{Progress}
 use Rattle.lanes.specs.Store.{received, pieces_in, lane_of, Kept}
 use Rattle.lanes.specs.Steps.{Closed, Addable, Added}
 use Rattle.lanes.specs.Moving.{Going, Gone, Splitting, SplitOff, Made, Roomy}
@@ -83,7 +83,7 @@ module _ (rule d x weight : ℕ) (s : Store) (h : Splitting rule d x weight s) w
     }
 
 -- the ways out
-module _ (rule : ℕ) (m : Move) (s : Store) (g : Going rule m s) (first : rule ≢ stirred_rule) (s₁ : Store) (plan : Plan) (o : Gone rule m s s₁ plan) where
+module _ (rule : ℕ) (m : Move) (s : Store) (g : Going rule m s) (first : rule ≢ stirred_rule) (s₁ : Store) (far : Progress) (o : Gone rule m s s₁ far) where
   chain : Chain s₁.next (start m.source) (lane_of rule s₁ m.source)
   chain = o.kept.chained m.source g.source
 
@@ -91,27 +91,27 @@ module _ (rule : ℕ) (m : Move) (s : Store) (g : Going rule m s) (first : rule 
   once = once_latest (take s₁.noted s₁.log)
 
   -- the answer, where the pieces are these
-  made : (s₂ : Store) (split born : ℕ) → Kept rule s₂ → Ended m (taken rule m (pieces_in s)) (pieces_in s₂) plan.whole split born
-      → Made rule m s s₂ (record { whole = plan.whole; split = split; born = born; count = s₂.count })
+  made : (s₂ : Store) (split born : ℕ) → Kept rule s₂ → Ended m (taken rule m (pieces_in s)) (pieces_in s₂) far.whole split born
+      → Made rule m s s₂ (record { whole = far.whole; split = split; born = born; count = s₂.count })
   made s₂ split born k e =
       let n : s₂.count ≡ length (handed m (taken rule m (pieces_in s))) = sym (ap length e.pieces ∙ length_pieces_in rule s₂ k) in
       record { kept = k; pieces = sym e.pieces; answer = rw (← e.whole, ← e.split, ← e.born, n) refl }
 
-  pub made_even : plan.left ≡ 0 → Made rule m s s₁ (record { whole = plan.whole; split = 0; born = 0; count = s₁.count })
-  made_even z = made s₁ 0 0 o.kept (ends_even rule m s.pieces (received s) g.apart s₁.pieces (received s₁) plan.whole plan.left o.goes first z)
+  pub made_even : far.left ≡ 0 → Made rule m s s₁ (record { whole = far.whole; split = 0; born = 0; count = s₁.count })
+  made_even z = made s₁ 0 0 o.kept (ends_even rule m s.pieces (received s) g.apart s₁.pieces (received s₁) far.whole far.left o.goes first z)
 
-  module _ (some : plan.left ≢ 0) where
+  module _ (some : far.left ≢ 0) where
     inside : s₁.count < length s₁.pieces
     inside = omega (arith, o.place some, o.kept.slots)
 
-    pub can_bear : m.birth ≤ last_minute → Addable rule (newborn m plan.left) s₁
+    pub can_bear : m.birth ≤ last_minute → Addable rule (newborn m far.left) s₁
     can_bear b = record { kept = o.kept; place = o.place some; holder = g.destination; birth = b; room = o.room }
 
-    pub made_born : link s₁.next (start m.source) ≡ 0 → (s₂ : Store) → Added rule (newborn m plan.left) s₁ s₂
-        → Made rule m s s₂ (record { whole = plan.whole; split = 0; born = plan.left; count = s₂.count })
+    pub made_born : link s₁.next (start m.source) ≡ 0 → (s₂ : Store) → Added rule (newborn m far.left) s₁ s₂
+        → Made rule m s s₂ (record { whole = far.whole; split = 0; born = far.left; count = s₂.count })
     made_born q s₂ a =
-        let e = ends_born rule m s.pieces (received s) g.apart s₁.pieces (received s₁) plan.whole plan.left o.goes first (none_behind chain q) some s₁.count (next_unused rule s₁ o.kept) inside in
-        made s₂ 0 plan.left a.kept (rw (a.pieces, a.order) e)
+        let e = ends_born rule m s.pieces (received s) g.apart s₁.pieces (received s₁) far.whole far.left o.goes first (none_behind chain q) some s₁.count (next_unused rule s₁ o.kept) inside in
+        made s₂ 0 far.left a.kept (rw (a.pieces, a.order) e)
 
     module _ (n : ℕ) (is : n ≡ link s₁.next (start m.source)) (there_is : n ≢ 0) where
       abbrev x : ℕ
@@ -123,10 +123,10 @@ module _ (rule : ℕ) (m : Move) (s : Store) (g : Going rule m s) (first : rule 
       line : Begins x (lane_of rule s₁ m.source)
       line = begins x chain leads_on
 
-      heavy : plan.left < (at_slot s₁.pieces x).weight
+      heavy : far.left < (at_slot s₁.pieces x).weight
       heavy = o.heavier some x leads_on
 
-      pub can_split : Splitting rule m.destination (n - 1) plan.left s₁
+      pub can_split : Splitting rule m.destination (n - 1) far.left s₁
       can_split = record {
         kept = o.kept;
         used = first_used rule s₁ o.kept m.source x line.rest line.is;
@@ -136,8 +136,8 @@ module _ (rule : ℕ) (m : Move) (s : Store) (g : Going rule m s) (first : rule 
         room = o.room;
       }
 
-      pub made_split : (s₂ : Store) → SplitOff rule m.destination (n - 1) plan.left s₁ s₂ → Made rule m s s₂ (record { whole = plan.whole; split = 1; born = 0; count = s₂.count })
+      pub made_split : (s₂ : Store) → SplitOff rule m.destination (n - 1) far.left s₁ s₂ → Made rule m s s₂ (record { whole = far.whole; split = 1; born = 0; count = s₂.count })
       made_split s₂ a =
-          let e = ends_split rule m s.pieces (received s) g.apart s₁.pieces (received s₁) plan.whole plan.left o.goes first x line.rest once (omega (arith, line.inside, o.kept.slots)) line.is some heavy
+          let e = ends_split rule m s.pieces (received s) g.apart s₁.pieces (received s₁) far.whole far.left o.goes first x line.rest once (omega (arith, line.inside, o.kept.slots)) line.is some heavy
           s₁.count (next_unused rule s₁ o.kept) inside in
           made s₂ 1 0 a.kept (rw (a.pieces, a.order) e)

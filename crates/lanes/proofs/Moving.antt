@@ -4,8 +4,8 @@ use Rattle.std.proofs.Common.{◌≡◌, refl, sym, ap, ◌∙◌, ◌≢◌, tr
 use lib.ListN.{length-map}
 use Rattle.taking.specs.declared.Move.{Move}
 use Rattle.taking.specs.Stirring.{stirred_rule}
-use Rattle.moving.specs.declared.Applied.{Applied}
-use Rattle.moving.specs.Applied.{full, applied}
+use Rattle.taking.specs.declared.Applied.{Applied}
+use Rattle.taking.specs.Applied.{full, applied}
 use Rattle.lanes.specs.Order.{at_slot, ahead}
 use Rattle.lanes.specs.Chains.{start, Chain}
 use Rattle.lanes.specs.Lanes.{most_lanes, Contents, taken_of, Movable, Moves}

@@ -13,7 +13,7 @@ use Rattle.taking.specs.Taken.{Taken}
 use Rattle.taking.specs.Taking.{take_from, take_found, take_next, take_up_to, singly, taken}
 use Rattle.taking.proofs.Stirring.{taken_singly, taken_fair}
 use Rattle.taking.proofs.Handed.{handed_length}
-use Rattle.moving.specs.Applied.{full}
+use Rattle.taking.specs.Applied.{full}
 use Rattle.lanes.specs.Order.{at_slot, pieces_at, ahead, lane}
 use Rattle.lanes.specs.Walk.{remains}
 use Rattle.lanes.proofs.Order.{First, none_picked, first_picked, length_in_order}

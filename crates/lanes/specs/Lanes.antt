@@ -6,8 +6,8 @@ use Rattle.table.specs.Table.{most_places}
 use Rattle.taking.specs.declared.Move.{Move}
 use Rattle.taking.specs.Taken.{Taken}
 use Rattle.taking.specs.Taking.{taken, handed}
-use Rattle.moving.specs.declared.Applied.{Applied}
-use Rattle.moving.specs.Applied.{full, applied}
+use Rattle.taking.specs.declared.Applied.{Applied}
+use Rattle.taking.specs.Applied.{full, applied}
 
 -- as many holders have a lane
 abbrev pub most_lanes : ℕ

@@ -6,10 +6,10 @@ use Rattle.table.specs.Pieces.{of_weight, hand_to}
 use Rattle.table.specs.Table.{most_places}
 use Rattle.taking.specs.declared.Move.{Move}
 use Rattle.taking.specs.Taking.{taken, handed}
-use Rattle.picking.specs.declared.plan.Plan.{Plan}
-use Rattle.moving.specs.declared.Applied.{Applied}
-use Rattle.moving.specs.Applied.{accepted}
+use Rattle.taking.specs.declared.Applied.{Applied}
+use Rattle.taking.specs.Applied.{accepted}
 use Rattle.lanes.specs.declared.Store.{Store}
+use Rattle.lanes.specs.declared.moves.Progress.{Progress}
 use Rattle.lanes.specs.Lanes.{most_lanes}
 use Rattle.lanes.specs.Order.{at_slot}
 use Rattle.lanes.specs.Chains.{start, link}
@@ -25,15 +25,15 @@ pub record Going (rule : ℕ) (m : Move) (s : Store) : Type 0 where
   pub place : remains s.pieces m.weight (lane_of rule s m.source) ≢ 0 → s.count < most_places
   pub room : s.noted + s.count < most_notes
 
--- Whole pieces have gone as planned, and the next of the source's lane is heavier than what is left.
-pub record Gone (rule : ℕ) (m : Move) (s s' : Store) (plan : Plan) : Type 0 where
+-- So many pieces have gone whole, and the next of the source's lane is heavier than what is left.
+pub record Gone (rule : ℕ) (m : Move) (s s' : Store) (far : Progress) : Type 0 where
   pub kept : Kept rule s'
-  pub goes : Goes rule m s.pieces (received s) s'.pieces (received s') plan.whole plan.left
-  pub heavier : plan.left ≢ 0 → (x : ℕ) → link s'.next (start m.source) ≡ x + 1 → plan.left < (at_slot s'.pieces x).weight
-  pub place : plan.left ≢ 0 → s'.count < most_places
+  pub goes : Goes rule m s.pieces (received s) s'.pieces (received s') far.whole far.left
+  pub heavier : far.left ≢ 0 → (x : ℕ) → link s'.next (start m.source) ≡ x + 1 → far.left < (at_slot s'.pieces x).weight
+  pub place : far.left ≢ 0 → s'.count < most_places
   pub room : s'.noted < most_notes
   pub count : s'.count ≡ s.count
-  pub few : plan.whole ≤ most_places
+  pub few : far.whole ≤ most_places
 
 -- The piece in slot x, the first of a lane, gives so much of its weight to holder d, in a new slot, and keeps the rest; it does.
 pub record Splitting (rule d x weight : ℕ) (s : Store) : Type 0 where

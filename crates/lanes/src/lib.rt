@@ -5,14 +5,13 @@
 ghost use Rattle.std.specs.Prelude.{◌≡◌, ◌≤◌, ◌<◌, ◌*◌, [], length};
 ghost use Rattle.table.specs.Table.{lay};
 ghost use Rattle.taking.specs.Stirring.{stirred_rule};
-ghost use Rattle.moving.specs.Applied.{full};
+ghost use Rattle.taking.specs.Applied.{full};
 ghost use Rattle.lanes.specs.Store.{fresh};
 ghost use Rattle.lanes.specs.Lanes.{taken_of, Movable, Moves};
 
-use moving::Applied;
 use std::marker::Model;
 use table::{PLACES, Piece};
-use taking::Move;
+use taking::{Applied, Move};
 
 mod keys; // keys.rt: the picking order by numbers
 mod links; // links.rt: the lanes, each a chain of slots

@@ -9,10 +9,15 @@ ghost use Rattle.lanes.specs.Walk.{remains};
 ghost use Rattle.lanes.specs.Moving.{Going, Gone, Splitting, SplitOff, Made, Roomy};
 
 use super::{NOTES, Store};
-use moving::Applied;
-use picking::plan::Plan;
 use table::{PLACES, Piece};
-use taking::Move;
+use taking::{Applied, Move};
+
+// How far a move has come: so many pieces have gone whole, and so much weight is still wanted.
+#[derive(Clone, Copy)]
+struct Progress {
+    whole: usize,
+    left: u32,
+}
 
 impl Store {
     // What would still be wanted once whole pieces are handed over. Nothing is moved: a move that is refused leaves all as it was.
@@ -39,7 +44,7 @@ impl Store {
     }
 
     // Whole pieces of the source are handed over, one after the other, while they are no heavier than what is wanted.
-    fn hand_over_whole(&mut self, rule: u32, m: Move) -> Plan
+    fn hand_over_whole(&mut self, rule: u32, m: Move) -> Progress
         requires { Going rule m self.old }
         ensures { Gone rule m self.old self.new result }
     {
@@ -47,17 +52,17 @@ impl Store {
         let mut link = self.next[PLACES + m.source as usize] as usize;
         for whole in 0..PLACES {
             if left == 0 || link == 0 {
-                return Plan { whole, left };
+                return Progress { whole, left };
             }
             let x = link - 1;
             let weight = self.pieces[x].weight;
             if left < weight {
-                return Plan { whole, left };
+                return Progress { whole, left };
             }
             left -= weight;
             link = self.hand_over(rule, m.source, m.destination, x);
         }
-        Plan {
+        Progress {
             whole: PLACES,
             left,
         }
@@ -78,7 +83,7 @@ impl Store {
         requires { Going rule m self.old × (rule ≢ stirred_rule) }
         ensures { Made rule m self.old self.new result }
     {
-        let Plan { whole, left } = self.hand_over_whole(rule, m);
+        let Progress { whole, left } = self.hand_over_whole(rule, m);
         let whole = whole as u32;
         if left == 0 {
             return Applied {

@@ -10,7 +10,7 @@ use Rattle.sheet.specs.Sheet.{rule_of, vessels_of, movements_of, read_number}
 use Rattle.sheet.specs.Answers.{header_of}
 use Rattle.sheet.proofs.ReadLaws.{good}
 use Rattle.writing.specs.Writing.{sheet_of, write_number}
-use Rattle.roundtrip.proofs.RoundTrip.{written_reads}
+use Rattle.writing.proofs.RoundTrip.{written_reads}
 use Rattle.run.proofs.NoMovement.{no_movement_run}
 use Rattle.text.specs.Digits.{digits, decimal}
 use Rattle.text.specs.Text.{word}

@@ -14,7 +14,7 @@ use Rattle.book.specs.Memory.{book_checks, number_of, call_on}
 use Rattle.fields.specs.Bytes.{value_in, bytes_of, groups, exists}
 use Rattle.fields.specs.Layout.{movements_off}
 use Rattle.fields.specs.Movements.{entries_checks}
-use Rattle.names.specs.Names.{letters, well_formed}
+use Rattle.fields.specs.Names.{letters, well_formed}
 use Rattle.sheet.specs.Sheet.{layout_off, no_sheet, read_number}
 use Rattle.writing.specs.Writing.{sheet_of}
 use Rattle.run.specs.Run.{run_from, run_number, running}

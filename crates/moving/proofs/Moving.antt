@@ -8,19 +8,20 @@ use Rattle.table.specs.Table.{most_places, pieces_of, lay}
 use Rattle.table.proofs.Table.{length_pieces}
 use Rattle.picking.specs.declared.selection.Order.{Order}
 use Rattle.picking.specs.declared.plan.Plan.{Plan}
-use Rattle.moving.specs.declared.Applied.{Applied}
 use Rattle.moving.specs.declared.apply.Withdrawal.{Withdrawal}
 use Rattle.taking.specs.declared.Move.{Move}
 use Rattle.taking.specs.Taken.{Taken}
 use Rattle.taking.specs.Taking.{handed, singly}
 use Rattle.picking.specs.Plan.{at_key, in_order, count_of, plan_from, splits, lacking, taken_by, planned}
-use Rattle.moving.specs.Applied.{full, accepted, applied, table_left, Ready, Moves}
+use Rattle.moving.specs.Moves.{table_left, Ready, Moves}
 use Rattle.picking.specs.Ordering.{Ordered}
 use Rattle.moving.specs.Parts.{Room, Applicable, Applies}
 use Rattle.picking.proofs.Keys.{length_in_order}
 use Rattle.picking.proofs.Planned.{singly_planned}
 use Rattle.taking.proofs.Taking.{singly_law}
 use Rattle.taking.proofs.Handed.{handed_length}
+use Rattle.taking.specs.declared.Applied.{Applied}
+use Rattle.taking.specs.Applied.{full, accepted, applied}
 
 -- the plan takes no more keys than there are
 plan_most : (ks : List ℕ) (c want : ℕ) (ps : List Piece) → (plan_from c ks want ps).whole ≤ c + length ks

@@ -16,9 +16,10 @@ use Rattle.taking.specs.Selection.{as_received}
 use Rattle.taking.specs.Taking.{handed, singly, taken}
 use Rattle.taking.proofs.Stirring.{counts, taken_singly, taken_stirred, taken_out}
 use Rattle.taking.specs.Stirring.{stirred_rule, weights_in, gifts, stirred}
-use Rattle.moving.specs.declared.Applied.{Applied}
+use Rattle.taking.specs.declared.Applied.{Applied}
+use Rattle.taking.specs.Applied.{full, applied}
 use Rattle.moving.specs.declared.stirring.Parted.{Parted}
-use Rattle.moving.specs.Applied.{full, applied, table_left, lifted_places, Ready, Moves}
+use Rattle.moving.specs.Moves.{table_left, lifted_places, Ready, Moves}
 use Rattle.moving.specs.Stirring.{Stirrable, SharesOut, Affordable, Partible, Parts}
 
 afford : (s q T : ℕ) → 0 < T → q ≤ T → (c : ℕ) (ps : List Piece) → Affordable (shares q T c (weights_in s ps)) ps

@@ -1,4 +1,4 @@
-pub mod Applied
+pub mod Moves
 pub mod Parts
 pub mod Workspace
 pub mod Stirring

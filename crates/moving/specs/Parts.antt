@@ -8,10 +8,10 @@ use Rattle.table.specs.Table.{most_places, pieces_of, lay, over, piece_in, put_i
 use Rattle.table.specs.Closing.{vacated}
 use Rattle.taking.specs.Taken.{Taken}
 use Rattle.taking.specs.Taking.{newborn, handed}
+use Rattle.taking.specs.declared.Applied.{Applied}
 use Rattle.picking.specs.Plan.{place_of, in_order, count_of, vacate_all, picked, reduced, part, lacking, taken_by}
-use Rattle.moving.specs.declared.Applied.{Applied}
 use Rattle.moving.specs.declared.apply.Withdrawal.{Withdrawal}
-use Rattle.moving.specs.Applied.{lifted_places}
+use Rattle.moving.specs.Moves.{lifted_places}
 
 -- There is room: for the pieces in the table, and for all that is lifted.
 pub record Room (w : Withdrawal) (t : List ℕ) : Type 0 where

@@ -3,7 +3,7 @@
 use Rattle.std.specs.Prelude.{◌*◌, replicate}
 use Rattle.table.specs.Table.{most_places}
 use Rattle.moving.specs.declared.Workspace.{Workspace}
-use Rattle.moving.specs.Applied.{lifted_places}
+use Rattle.moving.specs.Moves.{lifted_places}
 
 -- before it is used: zeros
 unfoldable pub blank : Workspace

@@ -4,11 +4,11 @@ ghost use Rattle.table.specs.Table.{most_places};
 ghost use Rattle.picking.specs.Plan.{count_of};
 ghost use Rattle.moving.specs.Parts.{Room, LiftsOne, Lifts, Splits, Follows, Gathers, plan_answer, Applicable, Applies};
 
-use super::{Applied, LIFTED, LIFTED_PLACES};
+use super::{LIFTED, LIFTED_PLACES};
 use picking::plan::Plan;
 use picking::selection::Order;
 use table::{Piece, closing};
-use taking::Move;
+use taking::{Applied, Move};
 
 // What a move takes out of a table of so many pieces: those that the plan takes of the order. The table and the memory for lifted pieces are not
 // in it: each step writes both, and asks that they have room.

@@ -6,10 +6,10 @@ ghost use Rattle.std.specs.Prelude.{◌≡◌};
 ghost use Rattle.table.specs.Pieces.{held};
 ghost use Rattle.table.specs.Table.{pieces_of};
 ghost use Rattle.taking.specs.Taking.{taken};
-ghost use Rattle.moving.specs.Applied.{Ready, Moves};
+ghost use Rattle.moving.specs.Moves.{Ready, Moves};
 ghost use Rattle.moving.specs.Workspace.{blank};
 
-use taking::{AS_RECEIVED, Move, STIRRED};
+use taking::{AS_RECEIVED, Applied, Move, STIRRED};
 
 mod apply; // apply.rt: a plan is applied
 mod singly; // singly.rt: one piece after the other goes
@@ -23,15 +23,6 @@ const LIFTED_PLACES: usize = table::PLACES + 1;
 
 // Its length, four numbers for a piece.
 pub const LIFTED: usize = 4 * LIFTED_PLACES;
-
-// What moving the pieces did, and the count of pieces after it.
-#[derive(Clone, Copy, Debug, PartialEq, Eq)]
-pub struct Applied {
-    pub whole: u32,
-    pub split: u32,
-    pub born: u32,
-    pub count: usize,
-}
 
 // What a source has: the rule by which it gives, and its balance.
 #[derive(Clone, Copy, Debug, PartialEq, Eq)]

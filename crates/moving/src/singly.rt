@@ -1,12 +1,12 @@
 // One piece after the other goes: the source's pieces are put in picking order, a plan is made, and it is applied.
 ghost use Rattle.table.specs.Table.{pieces_of};
 ghost use Rattle.taking.specs.Taking.{singly};
-ghost use Rattle.moving.specs.Applied.{Ready, Moves};
+ghost use Rattle.moving.specs.Moves.{Ready, Moves};
 
+use super::Workspace;
 use super::apply::Withdrawal;
-use super::{Applied, Workspace};
 use table::reading::Pieces;
-use taking::Move;
+use taking::{Applied, Move};
 
 // Moves the weight as one of the four first rules has it, or answers `None`.
 #[tactic(auto, using(table::proofs::Table::length_pieces))]

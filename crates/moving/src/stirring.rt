@@ -2,13 +2,13 @@
 ghost use Rattle.std.specs.Prelude.{◌≡◌, ◌≤◌, length};
 ghost use Rattle.table.specs.Table.{most_places, pieces_of};
 ghost use Rattle.taking.specs.Stirring.{stirred};
-ghost use Rattle.moving.specs.Applied.{Ready, Moves};
+ghost use Rattle.moving.specs.Moves.{Ready, Moves};
 ghost use Rattle.moving.specs.Stirring.{Stirrable, SharesOut, Partible, Parts};
 
-use super::{Applied, LIFTED, LIFTED_PLACES, Workspace};
+use super::{LIFTED, LIFTED_PLACES, Workspace};
 use table::reading::Pieces;
 use table::{closing, piece_at, put_piece};
-use taking::Move;
+use taking::{Applied, Move};
 
 // How many pieces stay in the table, and how many are lifted. A piece that is split is counted in both.
 #[derive(Clone, Copy, Debug, PartialEq, Eq)]

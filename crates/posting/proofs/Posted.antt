@@ -5,7 +5,8 @@ use Rattle.std.proofs.Common.{◌≡◌, refl, sym, ap, ◌∙◌, subst, Bool, 
 use Rattle.std.proofs.lemmas.Bool.Decides.{nat_tests}
 use Rattle.table.specs.Table.{places_of}
 use Rattle.table.proofs.Pieces.{all_map}
-use Rattle.moving.specs.Applied.{full, applied, table_left}
+use Rattle.taking.specs.Applied.{full, applied}
+use Rattle.moving.specs.Moves.{table_left}
 use Rattle.refusal.specs.Numbers.{first, if_zero}
 use Rattle.book.specs.declared.Head.{Head}
 use Rattle.book.specs.declared.Transfer.{Transfer}

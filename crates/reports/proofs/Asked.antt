@@ -19,7 +19,7 @@ use Rattle.book.proofs.Memory.{refused_on, off_number, on_number, passed_book, b
 use Rattle.book.proofs.ReportLaws.{whole_room}
 use Rattle.book.proofs.Known.{Known, adds_up_told, adds_head, known}
 use Rattle.reports.specs.Asking.{Judged, Asks}
-use Rattle.filling.specs.Scatter.{Reportable}
+use Rattle.reports.specs.Scatter.{Reportable}
 
 module _ (h : Head) (t : List ℕ) (q : Report) (room : List ℕ) where
   -- its number, as checks 1 and 4 find it

@@ -1,1 +1,4 @@
+pub mod Scattered
+pub mod Square
+pub mod Filled
 pub mod Asked

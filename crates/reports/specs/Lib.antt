@@ -1,1 +1,2 @@
+pub mod Scatter
 pub mod Asking

@@ -13,6 +13,8 @@ use ledger::audit;
 use refusal::Refusal;
 use table::reading::Pieces;
 
+mod filling; // filling.rt: what a report adds up, in one pass over the pieces
+
 // The checks after 1 and 4. What is asked is told by its variant, which is looked at once here and once where the room is filled.
 #[tactic(auto, unfolding(book::specs::Reports::asked_checks))]
 fn check_asked(vessels: u32, asked: Report, room: usize) -> Result<(), Refusal>

@@ -15,8 +15,9 @@ use Rattle.table.specs.Table.{pieces_of, places_of, lay, places_in}
 use Rattle.table.proofs.Table.{pieces_over, places_fit}
 use Rattle.taking.specs.Taken.{Taken}
 use Rattle.taking.specs.Taking.{handed}
-use Rattle.moving.specs.declared.Applied.{Applied}
-use Rattle.moving.specs.Applied.{full, accepted, applied, table_left}
+use Rattle.taking.specs.declared.Applied.{Applied}
+use Rattle.taking.specs.Applied.{full, accepted, applied}
+use Rattle.moving.specs.Moves.{table_left}
 use Rattle.lanes.specs.Lanes.{Contents, Movable, taken_of, Moves}
 use Rattle.book.specs.declared.Head.{Head}
 use Rattle.book.specs.declared.Motion.{Motion}

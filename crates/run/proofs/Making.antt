@@ -8,7 +8,7 @@ use Rattle.refusal.specs.Refusals.{number_of}
 use Rattle.refusal.proofs.Refusals.{some_number}
 use Rattle.table.specs.Table.{flat, lay}
 use Rattle.taking.specs.Stirring.{stirred_rule}
-use Rattle.moving.specs.declared.Applied.{Applied}
+use Rattle.taking.specs.declared.Applied.{Applied}
 use Rattle.lanes.specs.Lanes.{Contents}
 use Rattle.book.specs.declared.Head.{Head}
 use Rattle.book.specs.declared.Transfer.{Transfer}

@@ -5,7 +5,7 @@ use Rattle.std.specs.Prelude.{◌≡◌, List, ℕ, ◌*◌, ◌≤◌, length, 
 use Rattle.refusal.specs.declared.Refusal.{Refusal}
 use Rattle.refusal.specs.Refusals.{number_of}
 use Rattle.table.specs.Table.{lay}
-use Rattle.moving.specs.declared.Applied.{Applied}
+use Rattle.taking.specs.declared.Applied.{Applied}
 use Rattle.lanes.specs.Lanes.{Contents}
 use Rattle.book.specs.declared.Head.{Head}
 use Rattle.book.specs.declared.Transfer.{Transfer}

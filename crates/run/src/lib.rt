@@ -12,10 +12,10 @@ ghost use Rattle.run.specs.ByLanes.{written, InLanes, Steps};
 
 use book::{Head, Transfer};
 use lanes::Lanes;
-use moving::Applied;
 use posting::transfers;
 use refusal::Refusal;
 use sheet::Sheet;
+use taking::Applied;
 
 // What a run yields: the number of the movement that stopped it or 0, that movement's index or the count of all, the even count, and
 // the head after the last accepted movement. C gets it by value, so that a number tells a refusal.

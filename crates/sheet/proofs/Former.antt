@@ -13,7 +13,7 @@ use Rattle.fields.specs.Movements.{entry_size, no_entry, entry_in, entry_checks,
 use Rattle.fields.proofs.LayoutLaws.{movements_fit}
 use Rattle.fields.proofs.GroupLaws.{length_groups}
 use Rattle.fields.proofs.EntryLaws.{each_passed, not_given}
-use Rattle.names.specs.Names.{names_off}
+use Rattle.fields.specs.Names.{names_off}
 use Rattle.sheet.specs.Sheet.{names_read, entries_read, rule_of, vessels_of, movements_of, no_sheet, layout_off, read_checks, read_number}
 use Rattle.sheet.specs.Answers.{movement_at}
 use Rattle.sheet.specs.Former.{former_movements_off, former_entry_checks, former_read_number}

@@ -7,7 +7,7 @@ use Rattle.book.specs.Head.{open_checks}
 use Rattle.fields.specs.Bytes.{groups}
 use Rattle.fields.proofs.LayoutLaws.{movements_fit}
 use Rattle.fields.specs.Movements.{no_entry, entries_checks}
-use Rattle.names.specs.Names.{names_off}
+use Rattle.fields.specs.Names.{names_off}
 use Rattle.sheet.specs.Sheet.{names_read, rule_of, vessels_of, movements_of, no_sheet, layout_off, read_number}
 use Rattle.sheet.specs.Answers.{movement_answer, movement_asked}
 use Rattle.sheet.proofs.AnswerLaws.{asked_past}

@@ -8,14 +8,14 @@ use Rattle.std.proofs.Common.{ℕ, ◌-◌, ◌*◌, ◌/◌, ◌≤◌, arith, 
 use Rattle.refusal.specs.Numbers.{Check, ◌if◌, first}
 use Rattle.refusal.proofs.Numbers.{passed, same_if, past, refuses, passes, passed_first, passed_second}
 use Rattle.fields.specs.Bytes.{value_in}
-use Rattle.names.specs.Names.{names_in, names_off}
+use Rattle.fields.specs.Names.{names_in, names_off}
 use Rattle.fields.specs.declared.entries.Entry.{Entry}
 use Rattle.fields.specs.Movements.{entry_size, entry_in, entry_checks, entries_checks}
 use Rattle.book.specs.Head.{open_checks}
 use Rattle.fields.specs.Layout.{most_movements, name_size, name_start, header_size, names_at, entries_at, length_at, entries_start, sheet_size, movements_off, Within}
 use Rattle.sheet.specs.Sheet.{entries_read, names_read, rule_of, vessels_of, movements_of, layout_off, no_sheet, header_checks, body_checks, read_number}
 use Rattle.std.specs.Simd.{first_chunks}
-use Rattle.names.proofs.NameLaws.{names_cut, names_taken}
+use Rattle.fields.proofs.NameLaws.{names_cut, names_taken}
 use Rattle.fields.proofs.ChunkLaws.{entries_cut}
 use Rattle.fields.proofs.LayoutLaws.{few_movements}
 use Rattle.std.proofs.lemmas.List.{take_rest}

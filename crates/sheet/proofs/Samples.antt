@@ -6,7 +6,7 @@ use Rattle.book.specs.Head.{same, all_zero}
 use Rattle.fields.specs.Bytes.{value_in, groups, exists}
 use Rattle.fields.specs.Movements.{entries_checks}
 use Rattle.fields.specs.Layout.{movements_off}
-use Rattle.names.specs.Names.{letters, well_formed}
+use Rattle.fields.specs.Names.{letters, well_formed}
 use Rattle.sheet.specs.Sheet.{layout_off, no_sheet, read_number}
 use Rattle.sheet.specs.Answers.{asked_number, movement_asked}
 

@@ -8,7 +8,7 @@ use Rattle.sheet.specs.declared.answer.Reading.{Reading}
 use Rattle.sheet.specs.declared.answer.Movement.{Movement}
 use Rattle.fields.specs.declared.entries.Entry.{Entry}
 use Rattle.fields.specs.Layout.{name_size, name_start, entries_start}
-use Rattle.names.specs.Names.{short_name}
+use Rattle.fields.specs.Names.{short_name}
 use Rattle.fields.specs.Movements.{entry_size, entry_in, no_entry}
 use Rattle.sheet.specs.Sheet.{rule_of, vessels_of, movements_of, read_number}
 

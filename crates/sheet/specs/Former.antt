@@ -7,7 +7,7 @@ use Rattle.book.specs.Head.{open_checks}
 use Rattle.fields.specs.declared.entries.Entry.{Entry}
 use Rattle.fields.specs.Layout.{most_movements}
 use Rattle.fields.specs.Movements.{entry_checks, entries_checks}
-use Rattle.names.specs.Names.{names_off}
+use Rattle.fields.specs.Names.{names_off}
 use Rattle.sheet.specs.Sheet.{rule_of, vessels_of, movements_of, no_sheet, layout_off, names_read, entries_read}
 
 -- "M not 1 to 4,096"

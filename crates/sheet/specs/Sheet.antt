@@ -6,7 +6,7 @@ use Rattle.fields.specs.declared.entries.Entry.{Entry}
 use Rattle.fields.specs.Bytes.{value_in}
 use Rattle.fields.specs.Movements.{entries_in, entry_checks, entries_checks}
 use Rattle.fields.specs.Layout.{mark, mark_size, name_size, header_size, rule_at, vessels_at, movements_at, names_at, entries_at, length_at, entries_start, sheet_size, movements_off}
-use Rattle.names.specs.Names.{names_in, names_off}
+use Rattle.fields.specs.Names.{names_in, names_off}
 
 -- "4: rule (2 bytes). 6: V (2). 8: movement count M (4)."
 abbrev pub rule_of : List ℕ → ℕ

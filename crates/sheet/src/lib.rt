@@ -100,7 +100,7 @@ pub fn name<'a>(sheet: &'a [u8], vessel: u32) -> &'a [u8]
     match check_vessel(sheet, vessel) {
         Ok(()) => {
             let at = name_start(vessel);
-            let count = names::letter_count(&sheet[at..at + NAME_SIZE]);
+            let count = fields::names::letter_count(&sheet[at..at + NAME_SIZE]);
             &sheet[at..at + count]
         }
         Err(_) => &sheet[0..0],

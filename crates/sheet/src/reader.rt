@@ -23,7 +23,7 @@ fn check_body(sheet: &[u8], vessels: u32, movements: u32) -> Result<(), Refusal>
 {
     let start = name_start(vessels);
     let (names, _) = sheet[HEADER_SIZE..start].as_chunks::<NAME_SIZE>();
-    if names::names_off(names) {
+    if fields::names::names_off(names) {
         return Err(Refusal::Name);
     }
     let (entries, _) = sheet[start..].as_chunks::<ENTRY_SIZE>();

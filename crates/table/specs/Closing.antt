@@ -2,14 +2,13 @@
 -- behind it close up; then the pieces that were lifted out are put at the end.
 -- Definitions only. Assumes nothing.
 use Rattle.std.specs.Prelude.{◌≡◌, cond, List, [], ◌∷◌, ◌++◌, ℕ, ◌+◌, ◌*◌, ◌≤◌, ◌<◌, eqb, length, drop}
-use Rattle.refusal.specs.Numbers.{TOP}
 use Rattle.table.specs.declared.Piece.{Piece}
 use Rattle.table.specs.Pieces.{hand_to}
 use Rattle.table.specs.Table.{most_places, pieces_of}
 
 -- A holder that no book can have: it marks a place whose piece has gone.
 abbrev pub VACANT : ℕ
-VACANT = TOP
+VACANT = 4294967295
 
 -- the piece, gone from its place
 abbrev pub vacated : Piece → Piece

@@ -6,7 +6,7 @@ ghost use Rattle.table.specs.Closing.{stay, settled, Settling, Closes};
 use crate::{Piece, piece_at, put_piece};
 
 // A holder that no book can have: it marks a place whose piece has gone.
-pub const VACANT: u32 = refusal::TOP;
+pub const VACANT: u32 = u32::MAX;
 
 // The pieces that are not vacant close up; the answer is their count. The numbers that this frees are left as they are.
 // Table and count stand beside each other here and below: the table is lent by C, and written in place or read between two writes.

@@ -1,4 +1,4 @@
-// A move of pieces from a holder to another, as data. What is picked by each rule, taken and handed over is said in specs/, and what follows of
+// A move of pieces from a holder to another, and what it did, as data. What is picked by each rule, taken and handed over is said in specs/, and what follows of
 // that is shown in proofs/.
 #![tactic(auto)]
 
@@ -15,4 +15,13 @@ pub struct Move {
     pub destination: u32,
     pub birth: u32,
     pub weight: u32,
+}
+
+// What moving the pieces did, and the count of pieces after it.
+#[derive(Clone, Copy, Debug, PartialEq, Eq)]
+pub struct Applied {
+    pub whole: u32,
+    pub split: u32,
+    pub born: u32,
+    pub count: usize,
 }

@@ -3,3 +3,8 @@ pub mod SheetPut
 pub mod WriteLaws
 pub mod NoMovement
 pub mod Samples
+pub mod WrittenReads
+pub mod ReadRewrites
+pub mod RoundTrip
+pub mod TakenNumbers
+pub mod RewriteLaws

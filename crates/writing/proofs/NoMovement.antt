@@ -10,7 +10,7 @@ use Rattle.fields.specs.Bytes.{groups}
 use Rattle.fields.specs.Layout.{name_size, entries_start, sheet_size}
 use Rattle.fields.proofs.LayoutLaws.{movements_fit}
 use Rattle.fields.specs.Movements.{entries_checks}
-use Rattle.names.specs.Names.{names_in, names_off}
+use Rattle.fields.specs.Names.{names_in, names_off}
 use Rattle.writing.specs.Writing.{header_bytes, sheet_of, given_off, write_number, written}
 
 no_entries : (vessels : ℕ) → sheet_size vessels 0 ≡ entries_start vessels

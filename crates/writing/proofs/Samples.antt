@@ -6,7 +6,7 @@ use Rattle.book.specs.Head.{same, all_zero}
 use Rattle.fields.specs.Bytes.{bytes_of, groups, exists}
 use Rattle.fields.specs.Movements.{entries_checks}
 use Rattle.fields.specs.Layout.{movements_off}
-use Rattle.names.specs.Names.{letters, well_formed}
+use Rattle.fields.specs.Names.{letters, well_formed}
 use Rattle.sheet.proofs.Samples.{bytes, no_movement}
 use Rattle.writing.specs.Writing.{sheet_of, given_off, write_number}
 

@@ -6,13 +6,13 @@ use Rattle.refusal.specs.Numbers.{Check, ◌if◌, first}
 use Rattle.refusal.proofs.Numbers.{named, passed, same_if, past, refuses, passes, passed_first, passed_second}
 use Rattle.fields.specs.declared.entries.Entry.{Entry}
 use Rattle.fields.specs.Layout.{name_size, most_movements, sheet_size, movements_off, Within}
-use Rattle.names.specs.Names.{names_in, names_off}
+use Rattle.fields.specs.Names.{names_in, names_off}
 use Rattle.fields.specs.Movements.{given_size, entry_size, given_in, entries_given, entries_bytes, given_checks, entries_checks}
 use Rattle.book.specs.Head.{open_checks}
 use Rattle.writing.specs.Writing.{count_given, given_off, count_checks, content_checks, room_check, write_number, sheet_of, written}
 use Rattle.std.specs.Simd.{first_chunks}
 use Rattle.std.proofs.lemmas.Bool.{or_parts}
-use Rattle.names.proofs.NameLaws.{names_cut}
+use Rattle.fields.proofs.NameLaws.{names_cut}
 use Rattle.book.proofs.HeadLaws.{Openable, openable}
 use Rattle.fields.proofs.LayoutLaws.{few_movements}
 use Rattle.fields.proofs.GroupLaws.{length_groups}

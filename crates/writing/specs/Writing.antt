@@ -3,7 +3,7 @@ use Rattle.std.specs.Prelude.{Bool, not, ◌||◌, List, [], ◌∷◌, ◌++◌
 use Rattle.refusal.specs.Numbers.{Check, ◌if◌, first, if_zero}
 use Rattle.fields.specs.Bytes.{bytes_of}
 use Rattle.fields.specs.Layout.{name_size, mark, header_size, entries_start, sheet_size, movements_off}
-use Rattle.names.specs.Names.{names_in, names_off}
+use Rattle.fields.specs.Names.{names_in, names_off}
 use Rattle.fields.specs.Movements.{given_size, entries_given, entries_bytes, given_checks, entries_checks}
 use Rattle.book.specs.Head.{open_checks}
 

@@ -9,6 +9,7 @@ ghost use Rattle.writing.specs.Writing.{write_number, written};
 use refusal::Refusal;
 use writer::Draft;
 
+pub mod rewriting; // rewriting.rt: what was read is written again
 mod writer; // writer.rt: the checks of what is to be written, and its bytes
 
 // Writes a sheet at the start of `out`; the bytes behind it remain, and a refusal writes nothing.

@@ -68,7 +68,7 @@ impl<'a> Draft<'a> {
         ensures { outcome_number result ≡ first (content_checks self.now.vessels (count_given self.now.numbers.now) self.now.names.now self.now.numbers.now room) }
     {
         let (names, _) = self.names.as_chunks::<NAME_SIZE>();
-        if names::names_off(names) {
+        if fields::names::names_off(names) {
             return Err(Refusal::Name);
         }
         let movements = self.movements();

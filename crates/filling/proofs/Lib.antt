@@ -1,3 +1,0 @@
-pub mod Scattered
-pub mod Square
-pub mod Filling

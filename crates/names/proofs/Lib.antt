@@ -1,3 +1,0 @@
--- Laws that belong to no one function.
-pub mod NameLaws
-pub mod WhichNames

@@ -1,6 +1,0 @@
--- So many movements' numbers are taken.
-use Rattle.roundtrip.proofs.TakenNumbers.{Taken}
-use Rattle.roundtrip.proofs.take_numbers.Given as goal
-
-abbrev pub invariant-loop-i : goal.invariant-loop-i
-invariant-loop-i l = Taken l.sheet l.i l.initial.taken l.taken
