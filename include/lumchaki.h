@@ -136,7 +136,7 @@ typedef struct {
     uint32_t destination;
     uint32_t minute;
     uint32_t weight;
-    uint16_t age; /* what is born was milled so many minutes before; two bytes of padding follow */
+    uint32_t age; /* what is born was milled so many minutes before, at most 65,535 */
 } lumchaki_movement_read;
 
 typedef struct {

@@ -8,3 +8,4 @@ pub mod PutLaws
 pub mod BackLaws
 pub mod NameLaws
 pub mod WhichNames
+pub mod ShortNames

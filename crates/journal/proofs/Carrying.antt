@@ -1,7 +1,7 @@
 -- Calls carried out in turn from numbers: which call the numbers are, the loop by what is left, and that what is left is the journal of
 -- the calls, so that demand 3 holds of it.
 -- Assumes nothing.
-use Rattle.std.proofs.Common.{◌≡◌, refl, sym, ap, ◌∙◌, Bool, false, cond, List, [], ◌∷◌, ◌++◌, append_assoc, append-nil, ℕ, zero, suc, ◌+◌, ◌/◌, min, ◌≤◌, ◌<◌, add-one, arith, length, get_or, set, take, drop, length-set, take-append-drop, drop-drop, drop-cons, drop_of_length-le, take-suc-set, drop-set-lt}
+use Rattle.std.proofs.Common.{◌≡◌, refl, sym, ap, ◌∙◌, Bool, false, cond, List, [], ◌∷◌, ◌++◌, append_assoc, append-nil, map, ℕ, zero, suc, ◌+◌, ◌/◌, min, ◌≤◌, ◌<◌, add-one, arith, length, get_or, set, take, drop, length-set, take-append-drop, drop-drop, drop-cons, drop_of_length-le, take-suc-set, drop-set-lt}
 use Rattle.std.proofs.lemmas.Grind.{common_steps}
 use Rattle.std.specs.List.{list_any}
 use Rattle.refusal.specs.Numbers.{◌if◌, first}
@@ -71,14 +71,18 @@ module _ {l : List (List ℕ)} {h₀ : Head} {t₀ a₀ r₀ : List ℕ} {h : He
         room = ap (λ (k : Carried). k.room) all;
       }
 
--- what is left is the journal of the calls
-journal_is : (n : ℕ) (l : List ℕ) (h : Head) (t r : List ℕ) → let j = calls_on h t (calls_in n l h t r) in ((carried n l h t r).head ≡ j.head) × ((carried n l h t r).table ≡ j.table)
+-- what is left is the journal of the calls, and so are their numbers
+journal_is : (n : ℕ) (l : List ℕ) (h : Head) (t r : List ℕ)
+    → let k = carried n l h t r in
+    let j = calls_on h t (calls_in n l h t r) in
+    (k.head ≡ j.head) × (k.table ≡ j.table) × (k.numbers ≡ map (λ e. e.number) j.log)
 unfolding carried calls_in calls_on
-journal_is zero l h t r = (refl, refl)
+journal_is zero l h t r = (refl, refl, refl)
 journal_is (suc n) l h t r =
     let c = call_in l r in
     let o = call_on h t c in
-    journal_is n (drop call_size l) o.head o.table (room_left c o r)
+    let rest = journal_is n (drop call_size l) o.head o.table (room_left c o r) in
+    (rest.0, rest.1, ap (λ (ns : List ℕ). o.number ∷ ns) rest.2)
 
 -- the checks of a list, by those of opening and by its ages
 module _ (rule size : ℕ) (b : Bool) where
@@ -134,5 +138,5 @@ module _ (rule size : ℕ) (l a : List ℕ) (gs : List (List ℕ)) (n : ℕ) (ea
         record {
           refused = λ u. absurd (u k);
           done = λ u. (ap (λ (x : Head). record { number = 0; head = x }) q.0, q.1, q.2, q.3);
-          demand = λ u. (q.0 ∙ j.0, q.1 ∙ j.1, demand_3 rule size (sym (ap (λ (x : Reply). x.number) o)) t _);
+          demand = λ u. (q.0 ∙ j.0, q.1 ∙ j.1, q.2 ∙ ap (λ (ns : List ℕ). ns ++ drop (count_calls l a) a) j.2, demand_3 rule size (sym (ap (λ (x : Reply). x.number) o)) t _);
         }

@@ -4,7 +4,7 @@
 -- not looked at.
 -- An age is a number of 16 bits: a list with a transfer or a lift of a larger one is refused whole, with 18.
 -- Definitions only. Assumes nothing.
-use Rattle.std.specs.Prelude.{◌≡◌, Bool, false, cond, ◌||◌, List, [], ◌∷◌, ◌++◌, ℕ, zero, suc, ◌/◌, min, eqb, ltb, length, get_or, drop}
+use Rattle.std.specs.Prelude.{◌≡◌, Bool, false, cond, ◌||◌, List, [], ◌∷◌, ◌++◌, ℕ, zero, suc, ◌/◌, min, eqb, ltb, length, get_or, drop, map}
 use Rattle.refusal.specs.Numbers.{◌if◌, first}
 use Rattle.book.specs.declared.Head.{Head}
 use Rattle.book.specs.declared.Reply.{Reply}
@@ -136,8 +136,9 @@ pub record CarriesOut (rule size : ℕ) (calls t answers room : List ℕ) (r : R
   pub done : carry_number rule size calls answers ≡ 0
       → let k = carried (count_calls calls answers) calls (opening rule size).head t room in
       (r ≡ record { number = 0; head = k.head }) × (t' ≡ k.table) × (answers' ≡ k.numbers ++ drop (count_calls calls answers) answers) × (room' ≡ k.room)
-  -- and demand 3 holds of what was left
+  -- head, table and numbers are those of the journal of these calls, and demand 3 holds of it
   pub demand : carry_number rule size calls answers ≡ 0
       → let cs = calls_in (count_calls calls answers) calls (opening rule size).head t room in
       let j = calls_on (opening rule size).head t cs in
-      (r.head ≡ j.head) × (t' ≡ j.table) × Demand3 rule size t cs j
+      (r.head ≡ j.head) × (t' ≡ j.table) × (answers' ≡ map (λ e. e.number) j.log ++ drop (count_calls calls answers) answers)
+      × Demand3 rule size t cs j

@@ -1,10 +1,10 @@
 -- THE PUBLISHED LISTING (K1): the six movements, written as a sheet under rule 2, read, run and listed, are the five lines of document 01,
 -- byte for byte; and the two other forms of a listing. Assumes nothing.
 use mathlib.Core.List.{flat_map}
-use Rattle.std.proofs.Common.{◌≡◌, refl, List, [], ◌∷◌, ◌++◌, ℕ, replicate}
+use Rattle.std.proofs.Common.{◌≡◌, refl, List, [], ◌∷◌, ◌++◌, ℕ, ◌*◌, replicate}
 use Rattle.table.specs.declared.Piece.{Piece}
 use Rattle.book.specs.declared.Head.{Head}
-use Rattle.table.specs.Table.{pieces_of, flat, places_in}
+use Rattle.table.specs.Table.{most_places, pieces_of, flat, places_in}
 use Rattle.taking.specs.Selection.{precedes}
 use Rattle.taking.specs.Taking.{take_up_to, taken}
 use Rattle.book.specs.Head.{empty_head, tab, balances_of, every, same, adds_up, rules_fit, opening, all_zero}
@@ -67,7 +67,12 @@ six =
     ∷ 2 ∷ 0 ∷ 8 ∷ 1 ∷ 0
     ∷ []
 
--- the table that is lent: eight places, and no zeros in it
+-- the table that the program `list` lends: as many places as a table ever has, all of them zeros
+pub published_listed : sheet_listing (sheet_of 2 3 names six) (replicate (4 * most_places) 0) ≡ lines
+unfolding listing_text book_text first_line piece_lines piece_line decimal digits sheet_of bytes_of groups flat_map read_number no_sheet movements_off layout_off value_in exists well_formed letters all_zero entries_checks run_from run_number running call_on number_of book_checks adds_up rules_fit every same balances_of tab places_of pieces_of flat opening transfer_checks takes taken take_up_to precedes
+published_listed = refl
+
+-- another table: eight places, and no zeros in it
 pub published_whole : sheet_listing (sheet_of 2 3 names six) (replicate 32 9) ≡ lines
 unfolding listing_text book_text first_line piece_lines piece_line decimal digits sheet_of bytes_of groups flat_map read_number no_sheet movements_off layout_off value_in exists well_formed letters all_zero entries_checks run_from run_number running call_on number_of book_checks adds_up rules_fit every same balances_of tab places_in pieces_of flat opening transfer_checks takes taken take_up_to precedes
 published_whole = refl

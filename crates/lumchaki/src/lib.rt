@@ -2,10 +2,10 @@
 // A slice passes as a pointer and a length. Each contract is the one of the call behind it.
 #![tactic(auto)]
 
-ghost use Rattle.std.specs.Prelude.{◌≡◌, length};
+ghost use Rattle.std.specs.Prelude.{◌≡◌, ◌≤◌, length};
 ghost use Rattle.book.specs.Head.{opening};
 ghost use Rattle.book.specs.declared.Report.TheVariants.{Held, Spread, Whole};
-ghost use Rattle.book.specs.Transfer.{transfer_of};
+ghost use Rattle.book.specs.Transfer.{most_age, transfer_of};
 ghost use Rattle.book.specs.Calls.{post};
 ghost use Rattle.posting.specs.Posting.{Posts};
 ghost use Rattle.reports.specs.Asking.{Asks};
@@ -94,7 +94,8 @@ pub extern "C" fn lumchaki_read(sheet: &[u8]) -> Reading
 
 #[unsafe(no_mangle)]
 pub extern "C" fn lumchaki_movement(sheet: &[u8], index: u32) -> Movement
-    ensures { result ≡ movement_asked sheet.now index }
+    ensures answer { result ≡ movement_asked sheet.now index }
+    ensures age { result.age ≤ most_age }
 {
     sheet::movement(sheet, index)
 }

@@ -1,1 +1,2 @@
 pub mod RunTheorem
+pub mod InWords

@@ -1,14 +1,20 @@
--- THE FACT ABOUT RUNNING SUMS, over any weights and any amount: the shares sum to the amount (`shares_sum`), and each differs from the exact
--- amount × weight / total by less than 1 (`shares_near`). The idea: what falls to the first weights only grows, so that the shares telescope; and a share is
--- the difference of two numbers that are rounded down, each by less than 1. Where no more is shared out than there is, nothing gives more than it has.
+-- THE FACT ABOUT RUNNING SUMS, over any weights and any amount: the shares sum to the amount (`shares_sum`), each differs from the exact
+-- amount × weight / total by less than 1 (`shares_near`), and those of the first weights are together their exact part, rounded down (`shares_down`).
+-- The idea: what falls to the first weights only grows, so that the shares telescope; and a share is the difference of two numbers that are
+-- rounded down, each by less than 1. Where no more is shared out than there is, nothing gives more than it has.
 -- Assumes nothing.
-use Rattle.std.proofs.Common.{arith, ◌≡◌, refl, sym, ap, ◌∙◌, List, [], ◌∷◌, ℕ, zero, suc, ◌+◌, ◌*◌, ◌≤◌, ◌<◌, add-zero, zero-add, get_or}
+use Rattle.std.proofs.Common.{arith, ◌≡◌, refl, sym, ap, ◌∙◌, List, [], ◌∷◌, ℕ, zero, suc, ◌+◌, ◌*◌, ◌≤◌, ◌<◌, add-zero, zero-add, get_or, take}
+use Rattle.std.proofs.Math.Seq.{take-nil}
 use Rattle.std.proofs.Math.Nat.{div-mul-le_self, lt-div-mul-add, div-le_of_le-mul, mul-div_cancel, mul-le-mul_left, mul-le-mul_right, mul-zero, mul-add, add-mul, mul_comm, lt_of_mul-lt-mul_right, zero-div}
 use Rattle.sharing.specs.Sharing.{up_to, share, shares, sum_of}
 
 -- Two numbers are apart by less than n: so a / n and b / n are, by less than 1.
 abbrev pub Within : ℕ → ℕ → ℕ → Type 0
 Within n a b = (a < b + n) × (b < a + n)
+
+-- a is b / n, rounded down
+abbrev pub RoundedDown : ℕ → ℕ → ℕ → Type 0
+RoundedDown n a b = (a * n ≤ b) × (b < a * n + n)
 
 module _ (amount total : ℕ) where
   pub up_to_none : up_to amount total 0 ≡ 0
@@ -77,6 +83,24 @@ shares_at amount total c (suc i) some (w ∷ ws) = shares_at amount total (c + w
 
 pub shares_near : (amount : ℕ) (ws : List ℕ) → 0 < sum_of ws → (i : ℕ) → Within (sum_of ws) (get_or (shares amount (sum_of ws) 0 ws) i 0 * sum_of ws) (amount * get_or ws i 0)
 shares_near amount ws some i = shares_at amount (sum_of ws) 0 i some ws
+
+-- what the first weights get together
+first_shares : (amount total c : ℕ) → 0 < total → (ws : List ℕ) (i : ℕ)
+    → up_to amount total c + sum_of (take i (shares amount total c ws)) ≡ up_to amount total (c + sum_of (take i ws))
+unfolding shares
+first_shares amount total c some [] i = simp (take-nil, add-zero)
+first_shares amount total c some (w ∷ ws) zero = simp add-zero
+first_shares amount total c some (w ∷ ws) (suc i) =
+    let all : up_to amount total (c + w + sum_of (take i ws)) ≡ up_to amount total (c + (w + sum_of (take i ws))) = ap (up_to amount total) (omega arith) in
+    omega (arith, share_adds amount total some c w, first_shares amount total (c + w) some ws i, all)
+
+pub shares_down : (amount : ℕ) (ws : List ℕ) → 0 < sum_of ws → (i : ℕ)
+    → RoundedDown (sum_of ws) (sum_of (take i (shares amount (sum_of ws) 0 ws))) (amount * sum_of (take i ws))
+shares_down amount ws some i =
+    let together : sum_of (take i (shares amount (sum_of ws) 0 ws)) ≡ up_to amount (sum_of ws) (sum_of (take i ws)) =
+    omega (arith, simp zero-add at (first_shares amount (sum_of ws) 0 some ws i), up_to_none amount (sum_of ws))
+    in
+    rw together (below amount (sum_of ws) some _, above amount (sum_of ws) some _)
 
 -- of numbers of 32 bits: so much of the amount falls to a part of the total
 pub up_to_fits : (amount total c : ℕ) → 0 < total → c ≤ total → up_to amount total c ≤ amount

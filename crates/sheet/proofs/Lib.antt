@@ -6,3 +6,4 @@ pub mod Former
 pub mod NoMovement
 pub mod Samples
 pub mod Overlong
+pub mod Asked

@@ -18,7 +18,7 @@ pub struct Reading {
     pub movements: u32,
 }
 
-// What asking for a movement yields in C, likewise.
+// What asking for a movement yields in C, likewise. Its age is a number of 16 bits in 32, so that there is no padding.
 #[repr(C)]
 #[derive(Clone, Copy, Debug, PartialEq, Eq)]
 pub struct Movement {
@@ -27,5 +27,5 @@ pub struct Movement {
     pub destination: u32,
     pub minute: u32,
     pub weight: u32,
-    pub age: u16,
+    pub age: u32,
 }

@@ -51,7 +51,8 @@ fn find_movement(sheet: &[u8], index: u32) -> Result<Entry, Refusal>
 
 // The movement at an index.
 pub fn movement(sheet: &[u8], index: u32) -> Movement
-    ensures { result ≡ movement_asked sheet.now index }
+    ensures answer { result ≡ movement_asked sheet.now index }
+    ensures age { result.age ≤ most_age }
 {
     match find_movement(sheet, index) {
         Ok(e) => Movement {
@@ -60,7 +61,7 @@ pub fn movement(sheet: &[u8], index: u32) -> Movement
             destination: e.destination,
             minute: e.minute,
             weight: e.weight,
-            age: e.age as u16,
+            age: e.age,
         },
         Err(why) => Movement {
             number: u32::from(why),

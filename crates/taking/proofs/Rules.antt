@@ -1,7 +1,8 @@
--- Each rule picks what document 01 says it picks. The four are instances of one law: the picked piece wins over each piece of s
--- received later, and no piece of s received earlier wins over it.
+-- EACH RULE PICKS ITS PIECE. What is picked is a piece of s that stands there (`picked_there`), and none is picked only where s has none (`none_there`); which
+-- of them it is, is said rule by rule (`rule_0` to `rule_3`). The four are instances of one law: the picked piece wins over each piece of s received later, and
+-- no piece of s received earlier wins over it.
 -- Assumes nothing.
-use Rattle.std.proofs.Common.{◌≡◌, refl, sym, ◌≢◌, Bool, true, false, cond, List, [], ◌∷◌, ℕ, ◌≤◌, ◌<◌, arith, eqb, leb-true, leb-false, ltb-true, ltb-false, true≢false}
+use Rattle.std.proofs.Common.{◌≡◌, refl, sym, ◌≢◌, Bool, true, false, cond, List, [], ◌∷◌, ◌++◌, ℕ, ◌≤◌, ◌<◌, arith, eqb, leb-true, leb-false, ltb-true, ltb-false, true≢false}
 use Rattle.std.proofs.lemmas.Grind.{common_steps}
 use borrow.Author.Tests.{eqb-false}
 use Rattle.table.specs.declared.Piece.{Piece}
@@ -42,12 +43,20 @@ trans : (rule p x r : ℕ) → precedes rule p x ≡ true → precedes rule x r 
 unfolding precedes
 trans rule p x r u v = grind (arith, common_steps)
 
--- Under each rule; the four in the document's words follow.
+-- Under each rule; what that is of each of the four follows.
 pub picks_best : (rule s : ℕ) (ps : List Piece) → Best (wins rule) s ps (select (wins rule) s ps)
 picks_best rule s = best (wins rule) s (λ p x r. over rule p.birth x.birth r.birth) (λ p x r. trans rule p.birth x.birth r.birth)
 
 picks : (rule s : ℕ) (ps b : List Piece) (p : Piece) (a : List Piece) → select (wins rule) s ps ≡ at b p a → Best (wins rule) s ps (at b p a)
 picks rule s ps b p a e = rw e at (picks_best rule s ps)
+
+-- the pieces are those before it, the picked one, held by s, and those behind it
+pub picked_there : (rule s : ℕ) (ps b : List Piece) (p : Piece) (a : List Piece) → select (wins rule) s ps ≡ at b p a
+    → (ps ≡ b ++ (p ∷ a)) × (p.holder ≡ s)
+picked_there rule s ps b p a e = rw e at (select_good (wins rule) s ps)
+
+pub none_there : (rule s : ℕ) (ps : List Piece) → select (wins rule) s ps ≡ nothing → All (λ r. r.holder ≢ s) ps
+none_there rule s ps e = rw e at (picks_best rule s ps)
 
 -- earliest received; latest received; smallest birth, the earlier on a tie; largest birth, the later on a tie
 module _ (s : ℕ) (ps b : List Piece) (p : Piece) (a : List Piece) where

@@ -196,8 +196,8 @@ pub struct Movement {
     pub minute: u32,
     /// The weight in grams.
     pub weight: u32,
-    /// How many minutes before was milled what is born; two bytes of padding follow.
-    pub age: u16,
+    /// How many minutes before was milled what is born, at most 65,535.
+    pub age: u32,
 }
 
 /// The answer of a run.
@@ -219,8 +219,7 @@ mod tests {
     use super::*;
     use core::mem::{offset_of, size_of};
 
-    /// Nothing but 32-bit numbers, so that C and Rust agree on every offset. A movement has its age
-    /// behind them, and padding behind that.
+    /// Nothing but 32-bit numbers, so that C and Rust agree on every offset.
     #[test]
     fn records_have_no_gaps() {
         const HEAD: usize = 6 + 2 * VESSELS;

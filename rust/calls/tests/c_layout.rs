@@ -6,12 +6,13 @@ use std::mem::{offset_of, size_of};
 use std::path::Path;
 use std::process::{Command, Stdio};
 
-/// What C says of each record: its size, and where some of its fields start.
+/// What C says of each record: its size, where some of its fields start, and how wide an age is.
 const PROGRAM: &str = r#"
 #include "lumchaki.h"
 #include <stdio.h>
 #define SIZE(record) printf(#record " %u\n", (unsigned)sizeof(record))
 #define FIELD(record, field) printf(#field " %u\n", (unsigned)offsetof(record, field))
+#define WIDTH(record, field) printf(#field " %u\n", (unsigned)sizeof(((record *)0)->field))
 int main(void) {
     SIZE(lumchaki_head);
     FIELD(lumchaki_head, balances);
@@ -33,11 +34,17 @@ int main(void) {
     SIZE(lumchaki_movement_read);
     FIELD(lumchaki_movement_read, weight);
     FIELD(lumchaki_movement_read, age);
+    WIDTH(lumchaki_movement_read, age);
     SIZE(lumchaki_ran);
     FIELD(lumchaki_ran, head);
     return 0;
 }
 "#;
+
+/// How wide the field is that this picks.
+fn width<R, F>(_: fn(&R) -> &F) -> usize {
+    size_of::<F>()
+}
 
 #[test]
 fn records_lie_as_in_c() {
@@ -80,6 +87,7 @@ fn records_lie_as_in_c() {
         ("lumchaki_movement_read", size_of::<Movement>()),
         ("weight", offset_of!(Movement, weight)),
         ("age", offset_of!(Movement, age)),
+        ("age", width(|movement: &Movement| &movement.age)),
         ("lumchaki_ran", size_of::<Ran>()),
         ("head", offset_of!(Ran, head)),
     ];

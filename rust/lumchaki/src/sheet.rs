@@ -61,7 +61,7 @@ pub fn movement(sheet: &[u8], index: u32) -> Result<Transfer, Refusal> {
         destination: answer.destination,
         minute: answer.minute,
         weight: answer.weight,
-        age: answer.age,
+        age: u16::try_from(answer.age).expect("the library gives ages of 16 bits"),
     })
 }
 

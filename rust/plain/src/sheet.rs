@@ -105,7 +105,7 @@ pub fn movement(sheet: &[u8], index: u32) -> Movement {
         destination: movement.destination,
         minute: movement.minute,
         weight: movement.weight,
-        age: movement.age,
+        age: movement.age.into(),
     }
 }
 

@@ -195,7 +195,7 @@ impl Engine for Second {
             destination: movement.destination,
             minute: movement.minute,
             weight: movement.weight,
-            age: movement.age,
+            age: movement.age.into(),
         }
     }
 

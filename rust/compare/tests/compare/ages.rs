@@ -194,7 +194,7 @@ fn any_ages_of_a_sheet() {
             assert_eq!(pair.read(&bytes), given);
             for (index, movement) in (0..).zip(&sheet.movements) {
                 let asked = pair.movement(&bytes, index);
-                assert_eq!((asked.number, asked.age), (0, movement.age));
+                assert_eq!((asked.number, asked.age), (0, movement.age.into()));
             }
             // A refusal gives no age.
             assert_eq!(pair.movement(&bytes, given.movements).age, 0);
@@ -225,7 +225,7 @@ fn every_age_of_a_sheet() {
             for age in 0..=u16::MAX {
                 sheet.movements[0] = movement.aged(age);
                 let bytes = sheet.bytes();
-                assert_eq!(pair.movement(&bytes, 0).age, age);
+                assert_eq!(pair.movement(&bytes, 0).age, age.into());
                 let mut table = [9; 4];
                 let ran = pair.run(&bytes, &mut table);
                 if u32::from(age) > minute {
@@ -262,7 +262,7 @@ fn written_ages() {
                     let low_first = [age as u8, (age >> 8) as u8];
                     assert_eq!(out[movement + 2..movement + 4], low_first);
                     let asked = pair.movement(&out, at as u32 / 5);
-                    assert_eq!((asked.number, u32::from(asked.age)), (0, age));
+                    assert_eq!((asked.number, asked.age), (0, age));
                 }
             }
         }

@@ -47,9 +47,9 @@ fn rewrite(pair: &mut Pair, random: &mut Random, sheet: &Sheet) {
     let mut numbers = Vec::new();
     for (index, given) in (0..reading.movements).zip(&sheet.movements) {
         let m = pair.movement(&bytes, index);
-        let m = Transfer::new([m.source, m.destination, m.minute, m.weight]).aged(m.age);
-        assert_eq!(m, *given);
-        numbers.extend(m.numbers());
+        let m = [m.source, m.destination, m.minute, m.weight, m.age];
+        assert_eq!(m, given.numbers());
+        numbers.extend(m);
     }
     assert_eq!(numbers.len(), MOVEMENT_NUMBERS * sheet.movements.len());
     let mut out = vec![0xee; bytes.len() + random.index(5)];

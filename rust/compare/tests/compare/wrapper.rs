@@ -188,7 +188,8 @@ fn sheets() {
         assert_eq!(seen.number(&result), bare.number);
         if let Ok(m) = result {
             let fields = [bare.source, bare.destination, bare.minute, bare.weight];
-            assert_eq!(m, Transfer::new(fields).aged(bare.age));
+            assert_eq!(m.numbers()[..4], fields);
+            assert_eq!(u32::from(m.age), bare.age);
             aged += u32::from(m.age > 0);
         }
         let result = lumchaki::name(&bytes, vessel);
