@@ -69,7 +69,7 @@ six =
 
 -- the table that the program `list` lends: as many places as a table ever has, all of them zeros
 pub published_listed : sheet_listing (sheet_of 2 3 names six) (replicate (4 * most_places) 0) ≡ lines
-unfolding listing_text book_text first_line piece_lines piece_line decimal digits sheet_of bytes_of groups flat_map read_number no_sheet movements_off layout_off value_in exists well_formed letters all_zero entries_checks run_from run_number running call_on number_of book_checks adds_up rules_fit every same balances_of tab places_of pieces_of flat opening transfer_checks takes taken take_up_to precedes
+unfolding listing_text book_text first_line piece_lines piece_line decimal digits sheet_of bytes_of groups flat_map read_number no_sheet movements_off layout_off value_in exists well_formed letters all_zero entries_checks run_from run_number running call_on number_of book_checks adds_up rules_fit every same balances_of tab places_in pieces_of flat opening transfer_checks takes taken take_up_to precedes
 published_listed = refl
 
 -- another table: eight places, and no zeros in it

@@ -16,7 +16,7 @@ use Rattle.book.specs.Reports.{report_row, asked_checks, onto}
 use Rattle.book.specs.declared.Report.{Report}
 use Rattle.book.specs.declared.Report.TheVariants.{Whole}
 use Rattle.book.proofs.Memory.{refused_on, off_number, on_number, passed_book, book_passed}
-use Rattle.book.proofs.ReportLaws.{whole_room}
+use Rattle.book.proofs.ReportLaws.{all_pass, whole_room}
 use Rattle.book.proofs.Known.{Known, adds_up_told, adds_head, known}
 use Rattle.reports.specs.Asking.{Judged, Asks}
 use Rattle.reports.specs.Scatter.{Reportable}
@@ -59,7 +59,7 @@ module _ (h : Head) (t : List ℕ) (q : Report) (room : List ℕ) where
 
       pub asked_accepted : (z : Reply) → z ≡ record { number = 0; head = h } → (r : List ℕ) → r ≡ onto (report_row h.vessels (pieces_of h.pieces t) q) room → Asks h q t room r z
       unfolding call_on
-      asked_accepted z ez r er = record { answer = rw passed_all (ez ∙ rw (← book.on.head_is) refl); room = rw passed_all er }
+      asked_accepted z ez r er = record { answer = rw passed_all (ez ∙ rw (← book.on.head_is) refl); room = rw (passed_all, all_pass (pieces_of h.pieces t)) er }
 
 pub asked_square : (h : Head) (t room : List ℕ) (n : ℕ) → Judged h Whole t room n → n ≡ 0 → h.vessels * h.vessels ≤ length room
 asked_square h t room n e zn = whole_room h.vessels (length room) Whole refl (asked_fits h t Whole room n e zn)
