@@ -1,7 +1,7 @@
 -- The calls: what is answered to a posting is the call on head and table. One law, for all that can be posted.
 -- Assumes nothing.
 use Rattle.std.specs.Prelude.{Result}
-use Rattle.std.proofs.Common.{◌≡◌, refl, sym, ap, ◌∙◌, subst, Bool, true, false, cond, List, [], ◌∷◌, ℕ, zero, suc, ◌≤◌, ◌<◌, arith, length, le-ltb}
+use Rattle.std.proofs.Common.{◌≡◌, refl, sym, ap, ◌∙◌, subst, Bool, true, false, cond, List, ℕ, zero, suc, ◌<◌, arith}
 use Rattle.std.proofs.lemmas.Bool.Decides.{nat_tests}
 use Rattle.table.specs.Table.{places_of}
 use Rattle.table.proofs.Pieces.{all_map}
@@ -14,20 +14,20 @@ use Rattle.book.specs.declared.Tip.{Tip}
 use Rattle.book.specs.declared.Motion.{Motion}
 use Rattle.book.specs.declared.Transferred.{Transferred}
 use Rattle.book.specs.declared.Reply.{Reply}
-use Rattle.book.specs.Head.{Book, the_scale, most_vessels, most_holders, book_of}
+use Rattle.book.specs.Head.{Book, most_holders, book_of}
 use Rattle.book.specs.Motion.{Standing, of_book, of_head, Terms, motion, takes, pieces_after}
-use Rattle.book.specs.Calls.{Posting, by_transfer, by_lift, by_tip, terms, Call, enter, post, lift, tip, motion_on, meaning}
-use Rattle.book.specs.Memory.{book_checks, number_of, outcome}
+use Rattle.book.specs.Calls.{Posting, by_transfer, by_lift, by_tip, terms, enter, post, lift, motion_on, meaning}
+use Rattle.book.specs.Memory.{book_checks, number_of}
 use Rattle.book.proofs.BalanceLaws.{Holders}
 use Rattle.book.proofs.Sound.{number, own, proper, after_length, whole, posted_own, keeps}
 use Rattle.book.proofs.Memory.{number_same, no_place, refused_on, accepted_on, off_number}
 use Rattle.book.proofs.Known.{Known, standing_same}
-use Rattle.carrying.specs.declared.Carried.{Carried}
-use Rattle.carrying.specs.Carrying.{Audited, Carries}
+use Rattle.posting.specs.declared.carrying.Carried.{Carried}
+use Rattle.posting.specs.Carrying.{Audited, Carries}
 use Rattle.refusal.specs.declared.Refusal.{Refusal}
 use Rattle.refusal.specs.Refusals.{outcome_number}
 use Rattle.posting.specs.Posting.{PostsKnown, PostsAny, transferred, tipped, Posts, Tips}
-use Rattle.carrying.proofs.Next.{work_known, vessels_fit, next_head_is}
+use Rattle.posting.proofs.Next.{work_known, vessels_fit, next_head_is}
 
 module _ (v : Posting) (h : Head) (t t' : List ℕ) (r : Result Carried Refusal) where
   abbrev p : Terms

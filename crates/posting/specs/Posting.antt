@@ -12,8 +12,8 @@ use Rattle.book.specs.Motion.{of_head, Terms, motion}
 use Rattle.book.specs.Calls.{Call, tip}
 use Rattle.book.specs.Memory.{book_checks, call_on}
 use Rattle.book.specs.Memory as Memory
-use Rattle.carrying.specs.declared.Carried.{Carried}
-use Rattle.carrying.specs.Carrying.{Audited, Carries}
+use Rattle.posting.specs.declared.carrying.Carried.{Carried}
+use Rattle.posting.specs.Carrying.{Audited, Carries}
 
 -- A posting.
 module _ (p : Terms) where

@@ -7,7 +7,7 @@ ghost use Rattle.refusal.specs.Refusals.{outcome_number};
 ghost use Rattle.book.specs.Head.{most_vessels};
 ghost use Rattle.book.specs.Motion.{of_head, motion};
 ghost use Rattle.book.specs.Calls.{Posting, terms, post, lift};
-ghost use Rattle.carrying.specs.Carrying.{Audited, Carriable};
+ghost use Rattle.posting.specs.Carrying.{Audited, Carriable};
 ghost use Rattle.posting.specs.Posting.{PostsKnown, PostsAny, transferred, tipped, Posts, Tips};
 
 use book::{Head, Lift, Motion, Reply, Tip, Transfer, Transferred};
@@ -16,6 +16,7 @@ use ledger::audit;
 use moving::Workspace;
 use refusal::Refusal;
 
+pub mod carrying; // carrying.rt: a motion carried out
 mod scale; // scale.rt: lift and tip as postings
 pub mod transfers; // transfers.rt: the checks of a transfer, and a transfer as a posting
 
@@ -38,7 +39,7 @@ trait Posting: Copy {
 }
 
 // A posting on a book that is known to add up, with memory lent to work in: checks 1 and 4 are the caller's.
-#[tactic(auto, using(carrying::proofs::Next::vessels_fit))]
+#[tactic(auto, using(crate::proofs::Next::vessels_fit))]
 fn post_known<P: Posting>(
     head: Head,
     table: &mut [u32],
@@ -53,7 +54,7 @@ fn post_known<P: Posting>(
 }
 
 // A posting on any book.
-#[tactic(auto, using(carrying::proofs::Next::audited))]
+#[tactic(auto, using(crate::proofs::Next::audited))]
 fn post<P: Posting>(head: Head, table: &mut [u32], p: P) -> Result<Carried, Refusal>
     ensures { PostsAny (terms (P.pour p)) head table.old table.new result }
 {

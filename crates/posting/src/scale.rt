@@ -1,7 +1,7 @@
 // Lift and tip as postings.
 ghost use Rattle.book.specs.Calls.{by_lift, by_tip};
 
-use super::Posting;
+use super::{Posting, carrying};
 use book::{Head, Lift, Motion, Tip};
 use ledger::balances;
 use refusal::Refusal;

@@ -7,7 +7,7 @@ ghost use Rattle.book.specs.Motion.{of_head};
 ghost use Rattle.book.specs.Transfer.{transfer_checks};
 ghost use Rattle.book.specs.Calls.{by_transfer};
 
-use super::Posting;
+use super::{Posting, carrying};
 use book::{Head, Motion, Transfer};
 use ledger::balances;
 use refusal::Refusal;

@@ -29,8 +29,8 @@ use Rattle.book.proofs.Checks.{Fit, fit}
 use Rattle.book.proofs.Known.{Known}
 use Rattle.book.proofs.RuleLaws.{given_at}
 use Rattle.book.proofs.Sound.{after_length}
-use Rattle.carrying.specs.Carrying.{Audited, Carriable, Countable, next_head, concluded, Carries}
-use Rattle.carrying.proofs.Next.{work_known, vessels_fit, countable}
+use Rattle.posting.specs.Carrying.{Audited, Carriable, Countable, next_head, concluded, Carries}
+use Rattle.posting.proofs.Next.{work_known, vessels_fit, countable}
 use Rattle.posting.specs.Posting.{transferred, Posts}
 use Rattle.posting.proofs.Posted.{transfer_known_posts}
 use Rattle.lanes.proofs.Laid.{lay_twice, length_lay}

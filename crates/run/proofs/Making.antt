@@ -14,8 +14,8 @@ use Rattle.book.specs.declared.Head.{Head}
 use Rattle.book.specs.declared.Transfer.{Transfer}
 use Rattle.book.specs.Head.{empty_head}
 use Rattle.book.specs.Calls.{post}
-use Rattle.carrying.specs.Carrying.{Audited}
-use Rattle.carrying.proofs.Next.{work_known}
+use Rattle.posting.specs.Carrying.{Audited}
+use Rattle.posting.proofs.Next.{work_known}
 use Rattle.posting.specs.Posting.{refused_with, Posts}
 use Rattle.sheet.specs.declared.answer.Header.{Header}
 use Rattle.sheet.specs.Answers.{header_numbers}

@@ -13,7 +13,7 @@ use Rattle.book.specs.Memory.{Outcome, outcome, call_on}
 use Rattle.book.specs.Memory as Memory
 use Rattle.book.proofs.Memory.{refused_memory}
 use Rattle.book.proofs.Known.{known_up}
-use Rattle.carrying.specs.Carrying.{Audited}
+use Rattle.posting.specs.Carrying.{Audited}
 use Rattle.posting.specs.Posting.{Posts}
 use Rattle.book.proofs.HeadLaws.{openable}
 use Rattle.book.proofs.After.{known_after, length_after, fresh_known}

@@ -5,7 +5,7 @@ ghost use Rattle.std.specs.Prelude.{◌≡◌, ◌<◌, ◌≤◌, ◌+◌, ◌*
 ghost use Rattle.refusal.specs.Numbers.{if_zero};
 ghost use Rattle.book.specs.Head.{empty_head};
 ghost use Rattle.refusal.specs.Refusals.{number_of};
-ghost use Rattle.carrying.specs.Carrying.{Audited};
+ghost use Rattle.posting.specs.Carrying.{Audited};
 ghost use Rattle.sheet.specs.Sheet.{movements_of};
 ghost use Rattle.run.specs.Run.{transfer_at, transfers_of, not_run, Gives, run_from, running, Checked};
 ghost use Rattle.run.specs.ByLanes.{written, InLanes, Steps};
@@ -68,11 +68,11 @@ fn make(x: Transfer, table: &[u32], head: &mut Head, lanes: &mut Lanes) -> Resul
     ensures { Steps x table.now head.old head.new lanes.old lanes.new result }
 {
     transfers::check_transfer(head, x)?;
-    let m = carrying::motion_of(x);
+    let m = posting::carrying::motion_of(x);
     let moved = lanes
         .move_pieces(table::places(table), m.moves)
         .ok_or(Refusal::TableFull)?;
-    carrying::advance(head, m, moved);
+    posting::carrying::advance(head, m, moved);
     Ok(moved)
 }
 

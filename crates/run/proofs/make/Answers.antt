@@ -1,6 +1,6 @@
 -- `make` meets its contract: the ways out of it are those of `ByLanes`.
 use Rattle.std.proofs.Common.{sym}
-use Rattle.carrying.proofs.Next.{vessels_fit}
+use Rattle.posting.proofs.Next.{vessels_fit}
 use Rattle.run.proofs.ByLanes.{step_refused, in_time, movable, step_full, step_countable, step_made}
 use Rattle.run.proofs.make.Goals as goal
 

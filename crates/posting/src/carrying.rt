@@ -1,11 +1,9 @@
 // A motion carried out on a book that adds up: the pieces are moved, and two balances change.
-#![tactic(auto)]
-
 ghost use Rattle.std.specs.Prelude.{◌≡◌, ◌≤◌};
 ghost use Rattle.book.specs.Head.{the_scale};
 ghost use Rattle.book.specs.Transfer.{motion_of};
 ghost use Rattle.book.specs.Scale.{lift_motion, tip_motion};
-ghost use Rattle.carrying.specs.Carrying.{Audited, Carriable, next_head, Countable, Carries};
+ghost use Rattle.posting.specs.Carrying.{Audited, Carriable, next_head, Countable, Carries};
 
 use book::{Head, Lift, Motion, SCALE, Tip, Transfer};
 use ledger::{balances, rules};

@@ -8,7 +8,7 @@ use Rattle.moving.specs.declared.Applied.{Applied}
 use Rattle.moving.specs.Applied.{applied, table_left}
 use Rattle.book.specs.declared.Head.{Head}
 use Rattle.book.specs.declared.Motion.{Motion}
-use Rattle.carrying.specs.declared.Carried.{Carried}
+use Rattle.posting.specs.declared.carrying.Carried.{Carried}
 use Rattle.refusal.specs.declared.Refusal.{Refusal}
 use Rattle.refusal.specs.declared.Refusal.TheVariants.{TableFull}
 use Rattle.book.specs.Head.{most_holders, Sized, Shiftable, balance_at, shifted, book_of, adds_up}

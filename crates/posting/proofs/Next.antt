@@ -24,7 +24,7 @@ use Rattle.book.proofs.BalanceLaws.{Holders, Matches, matches_balances, long_bal
 use Rattle.book.proofs.Sound.{takes_fair, held_after}
 use Rattle.book.proofs.Memory.{book_passed}
 use Rattle.book.proofs.Known.{Known, known_up}
-use Rattle.carrying.specs.Carrying.{Audited, Carriable, next_head, Countable}
+use Rattle.posting.specs.Carrying.{Audited, Carriable, next_head, Countable}
 
 -- past 1 and 4
 pub audited : (h : Head) (t : List ℕ) (n : ℕ) → (n ≡ first (book_checks h t)) × Sized h → n ≡ 0 → Audited h t

@@ -1,7 +1,7 @@
 -- `carry` meets its contract: what the move and the next head ask.
-use Rattle.carrying.proofs.Next.{move_ready, source_holds, move_countable}
+use Rattle.posting.proofs.Next.{move_ready, source_holds, move_countable}
 use Rattle.std.proofs.Common.{rules}
-use Rattle.carrying.proofs.carry.Goals as goal
+use Rattle.posting.proofs.carrying.carry.Goals as goal
 
 pub move_pieces-requires : goal.move_pieces-requires
 move_pieces-requires c = search (rules, move_ready, source_holds)
