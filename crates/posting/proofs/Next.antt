@@ -1,7 +1,6 @@
 -- A motion on a book known to add up: the pieces moved and the next head are together the book after it.
 -- Assumes nothing.
-use Rattle.std.specs.Option.{ok_or}
-use Rattle.std.proofs.Common.{◌≡◌, ◌∙◌, Option, Some, Result, Ok, List, ℕ, ◌+◌, ◌-◌, ◌≤◌, ◌<◌, arith, eqb}
+use Rattle.std.proofs.Common.{◌≡◌, ◌∙◌, Some, List, ℕ, ◌+◌, ◌-◌, ◌≤◌, ◌<◌, arith, eqb}
 use Rattle.std.proofs.lemmas.Bool.Decides.{nat_tests}
 use Rattle.table.specs.Pieces.{only, held, All}
 use Rattle.table.specs.Closing.{Present}
@@ -9,14 +8,13 @@ use Rattle.table.specs.Table.{pieces_of, places_of}
 use Rattle.table.proofs.Pieces.{all_map}
 use Rattle.table.proofs.Table.{places_fit}
 use Rattle.taking.specs.Taken.{Taken}
-use Rattle.taking.specs.Taking.{handed, taken}
+use Rattle.taking.specs.Taking.{handed}
 use Rattle.moving.specs.declared.Applied.{Applied}
-use Rattle.moving.specs.Applied.{accepted, applied, Ready, Moves}
+use Rattle.moving.specs.Applied.{accepted, applied, Ready}
 use Rattle.refusal.specs.Numbers.{first}
 use Rattle.book.specs.declared.Head.{Head}
 use Rattle.book.specs.declared.Motion.{Motion}
-use Rattle.refusal.specs.declared.Refusal.{Refusal}
-use Rattle.book.specs.Head.{Book, most_vessels, most_holders, Sized, Shiftable, balance_at, with_balance, holdings, shifted, head_of, book_of, rule_at}
+use Rattle.book.specs.Head.{Book, most_vessels, most_holders, Sized, Shiftable, balance_at, with_balance, holdings, shifted, head_of, book_of}
 use Rattle.book.specs.Motion.{takes, pieces_after, book_after}
 use Rattle.book.specs.Memory.{book_checks}
 use Rattle.book.proofs.HolderLaws.{holder_bound}
@@ -89,10 +87,3 @@ module _ (h : Head) (t : List ℕ) (w : Audited h t) (m : Motion) where
     pub countable : (a : Applied) → applied (places_of t) m.moves r ≡ Some a → Countable h m a
     unfolding places_of applied takes
     countable a e = grind (arith, nat_tests, born_is, shifts)
-
-    -- it was carried, whatever is answered where it was not
-    pub move_countable : (p : ℕ) → p ≡ places_of t → (rule : ℕ) → rule ≡ rule_at h.rules m.moves.source → (t' : List ℕ) (o : Option Applied)
-        → Moves p m.moves (taken rule m.moves (pieces_of h.pieces t)) t t' o
-        → (a : Applied) (why : Refusal) (z : Result Applied Refusal) → z ≡ ok_or o why → z ≡ Ok a → Countable h m a
-    unfolding takes
-    move_countable p ep rule er t' o moves a why z ez ea = countable a (grind (arith, moves.answer))

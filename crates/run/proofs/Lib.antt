@@ -1,5 +1,4 @@
 pub mod RunLaws
-pub mod ByLanes
 pub mod Making
 pub mod RunTheorem
 pub mod NoMovement
