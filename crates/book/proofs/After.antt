@@ -1,25 +1,20 @@
--- After a transfer on a book known to add up, the book is known to add up again, and the table is as long as before: so a run of many
--- transfers makes checks 1 and 4 once.
+-- AFTER A CALL on a book known to add up, the book is known to add up again, and the table is as long as before: so that many calls in turn need checks 1 and 4
+-- once. An accepted call has to leave numbers of 32 bits. And a fresh book is known.
 -- Assumes nothing.
-use Rattle.std.proofs.Common.{◌≡◌, refl, sym, List, ℕ, arith, length, ◌∙◌}
+use Rattle.std.proofs.Common.{◌≡◌, refl, ◌∙◌, List, ℕ, zero, suc, arith, length}
 use Rattle.table.specs.Pieces.{done}
 use Rattle.table.specs.Table.{flat}
 use Rattle.table.proofs.Pieces.{all_map}
-use Rattle.refusal.specs.Numbers.{first}
-use Rattle.refusal.proofs.Numbers.{first_zero}
+use Rattle.refusal.specs.Numbers.{first, if_zero}
 use Rattle.book.specs.declared.Head.{Head}
-use Rattle.book.specs.declared.Transfer.{Transfer}
 use Rattle.book.specs.Head.{Book, Sized, head_of, book_of, empty_head, opened, open_checks}
-use Rattle.book.specs.Motion.{of_book}
-use Rattle.book.specs.Transfer.{transfer_terms, motion_of}
-use Rattle.book.specs.Calls.{by_transfer, post, meaning}
-use Rattle.book.specs.Memory.{call_on}
+use Rattle.book.specs.Calls.{meaning, Call}
+use Rattle.book.specs.Memory.{call_on, number_of}
 use Rattle.book.proofs.BalanceLaws.{balances_match, balance_held, fresh_head}
 use Rattle.book.proofs.RuleLaws.{given_fit}
-use Rattle.book.proofs.Checks.{fit}
-use Rattle.book.proofs.Sound.{number, SoundBook, SizedBook, motion_light, proper, posted_own, passed_own}
+use Rattle.book.proofs.Sound.{number, SoundBook, SizedBook}
 use Rattle.book.proofs.HeadLaws.{openable}
-use Rattle.book.proofs.Memory.{On, adds, in_step}
+use Rattle.book.proofs.Memory.{On, adds, in_step, number_same}
 use Rattle.book.proofs.Known.{Known, known_up}
 
 -- the head of a sound book whose numbers are of 32 bits has such numbers
@@ -33,22 +28,23 @@ sized_head len b o z =
 on_known : (len : ℕ) (h : Head) (t : List ℕ) (b : Book) → On len h t b → SoundBook len b → SizedBook b → Known h t
 on_known len h t b on o z = known_up h t (rw on.head_is (sized_head len b o z)) (adds len h t b on o)
 
--- a transfer leaves numbers of 32 bits
-post_sized : (len : ℕ) (b : Book) (x : Transfer) → SizedBook b → number len b (post x) ≡ 0 → SizedBook ((meaning (post x)).next b)
-post_sized len b x z e =
-    let f = fit (of_book b) x (first_zero _ _ (sym (posted_own (transfer_terms x) (proper (by_transfer x)) len b) ∙ passed_own len b (post x) e)) in
-    record { light = motion_light b (motion_of x) z.light f.room; tally = let u = f.tally in omega (arith, z.tally) }
+module _ (h : Head) (t : List ℕ) (k : Known h t) (c : Call) where
+  -- the book that it leaves
+  abbrev b' : Book
+  b' = if_zero (number (length t) (book_of h t) c) ((meaning c).next (book_of h t)) (book_of h t)
 
-module _ (h : Head) (t : List ℕ) (k : Known h t) (x : Transfer) where
-  pub known_after : Known (call_on h t (post x)).head (call_on h t (post x)).table
-  known_after =
-      let s = in_step (length t) h t (book_of h t) k.on k.sound (post x) in
-      on_known (length t) _ _ _ s.holds s.sound (grind (arith, post_sized (length t) (book_of h t) x k.light, k.light))
+  sized_after : (number_of h t c ≡ 0 → SizedBook ((meaning c).next (book_of h t))) → SizedBook b'
+  sized_after z = go (number (length t) (book_of h t) c) refl
+    where
+      go : (n : ℕ) → number (length t) (book_of h t) c ≡ n → SizedBook (if_zero n ((meaning c).next (book_of h t)) (book_of h t))
+      go zero e = z (number_same (length t) h t (book_of h t) k.on k.sound c ∙ e)
+      go (suc n) e = k.light
 
-  pub length_after : length (call_on h t (post x)).table ≡ length t
-  unfolding call_on
-  length_after =
-      (in_step (length t) h t (book_of h t) k.on k.sound (post x)).holds.lies.long
+  pub known_after : (number_of h t c ≡ 0 → SizedBook ((meaning c).next (book_of h t))) → Known (call_on h t c).head (call_on h t c).table
+  known_after z = let s = in_step (length t) h t (book_of h t) k.on k.sound c in on_known (length t) _ _ b' s.holds s.sound (sized_after z)
+
+  pub length_after : length (call_on h t c).table ≡ length t
+  length_after = (in_step (length t) h t (book_of h t) k.on k.sound c).holds.lies.long
 
 -- a fresh book
 pub fresh : (len rule size : ℕ) → first (open_checks rule size) ≡ 0 → SoundBook len (opened rule size)

@@ -1,4 +1,3 @@
 pub mod Moves
 pub mod Parts
-pub mod Workspace
 pub mod Stirring

@@ -7,8 +7,8 @@ ghost use Rattle.table.specs.Pieces.{held};
 ghost use Rattle.table.specs.Table.{pieces_of};
 ghost use Rattle.taking.specs.Taking.{taken};
 ghost use Rattle.moving.specs.Moves.{Ready, Moves};
-ghost use Rattle.moving.specs.Workspace.{blank};
 
+use std::marker::Model;
 use taking::{AS_RECEIVED, Applied, Move, STIRRED};
 
 mod apply; // apply.rt: a plan is applied
@@ -31,20 +31,23 @@ pub struct Holding {
     pub balance: u32,
 }
 
-// Memory to work in, for keys or gifts, to sort keys, and for lifted pieces. What it holds afterwards is not laid down.
+// Memory to work in, for keys or gifts, to sort keys, and for lifted pieces. What it holds is no part of its value, so that no contract can speak of it, and none
+// has to.
 #[derive(Drop)]
 pub struct Workspace {
-    pub keys: [u64; KEYS],
-    pub spare: [u64; KEYS],
-    pub lifted: [u32; LIFTED],
+    keys: [u64; KEYS],
+    spare: [u64; KEYS],
+    lifted: [u32; LIFTED],
+}
+
+impl Model for Workspace {
+    ghost Value = { Unit {0} };
+
+    ghost view = { λ work. tt };
 }
 
 impl Workspace {
-    // Zeros.
-    #[tactic(auto, unfolding(crate::specs::Workspace::blank))]
-    pub fn new() -> Self
-        ensures { result ≡ blank }
-    {
+    pub fn new() -> Self {
         Workspace {
             keys: [0; KEYS],
             spare: [0; KEYS],

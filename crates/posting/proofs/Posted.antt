@@ -1,45 +1,59 @@
--- The calls: what is answered to a posting is the call on head and table. One law, for all that can be posted.
+-- The calls: what is answered to a posting is the call on head and table, and the book is known again. One law, for all that can be posted, and whatever keeps
+-- the pieces.
 -- Assumes nothing.
-use Rattle.std.specs.Prelude.{Result}
-use Rattle.std.proofs.Common.{◌≡◌, refl, sym, ap, ◌∙◌, subst, Bool, true, false, cond, List, [], ◌∷◌, ℕ, zero, suc, ◌≤◌, ◌<◌, arith, length, le-ltb}
+use Rattle.std.specs.Option.{ok_or}
+use Rattle.std.specs.Result.{IsErrAnd}
+use Rattle.std.proofs.Common.{◌≡◌, refl, sym, ap, ◌∙◌, subst, Bool, true, false, cond, Option, Some, Result, Ok, Err, List, ℕ, zero, suc, arith, length}
 use Rattle.std.proofs.lemmas.Bool.Decides.{nat_tests}
 use Rattle.table.specs.Table.{places_of}
 use Rattle.table.proofs.Pieces.{all_map}
-use Rattle.taking.specs.Applied.{full, applied}
-use Rattle.moving.specs.Moves.{table_left}
+use Rattle.taking.specs.declared.Applied.{Applied}
+use Rattle.taking.specs.Applied.{full, accepted, applied}
+use Rattle.moving.specs.Moves.{table_left, Moves}
+use Rattle.refusal.specs.declared.Refusal.{Refusal}
+use Rattle.refusal.specs.declared.Refusal.TheVariants.{TableFull}
 use Rattle.refusal.specs.Numbers.{first, if_zero}
+use Rattle.refusal.specs.Refusals as Refusals
+use Rattle.refusal.proofs.Refusals.{some_number}
 use Rattle.book.specs.declared.Head.{Head}
-use Rattle.book.specs.declared.Transfer.{Transfer}
-use Rattle.book.specs.declared.Lift.{Lift}
-use Rattle.book.specs.declared.Tip.{Tip}
 use Rattle.book.specs.declared.Motion.{Motion}
-use Rattle.book.specs.declared.Transferred.{Transferred}
 use Rattle.book.specs.declared.Reply.{Reply}
-use Rattle.book.specs.Head.{Book, the_scale, most_vessels, most_holders, book_of}
-use Rattle.book.specs.Motion.{Standing, of_book, of_head, Terms, motion, takes, pieces_after}
-use Rattle.book.specs.Calls.{Posting, by_transfer, by_lift, by_tip, terms, Call, enter, post, lift, tip, motion_on, meaning}
-use Rattle.book.specs.Memory.{book_checks, number_of, outcome}
+use Rattle.book.specs.declared.Tip.{Tip}
+use Rattle.book.specs.declared.Transferred.{Transferred}
+use Rattle.book.specs.Head.{Book, head_of, book_of}
+use Rattle.book.specs.Motion.{Standing, of_book, of_head, Terms, motion, takes, pieces_after, book_after}
+use Rattle.book.specs.Calls.{Posting, terms, Call, enter, tip, motion_on, meaning}
+use Rattle.book.specs.Memory.{book_checks, number_of}
 use Rattle.book.proofs.BalanceLaws.{Holders}
-use Rattle.book.proofs.Sound.{number, own, proper, after_length, whole, posted_own, keeps}
+use Rattle.book.proofs.Sound.{number, own, proper, after_length, whole, posted_own, motion_light, SizedBook, keeps}
 use Rattle.book.proofs.Memory.{number_same, no_place, refused_on, accepted_on, off_number}
 use Rattle.book.proofs.Known.{Known, standing_same}
-use Rattle.carrying.specs.declared.Carried.{Carried}
-use Rattle.carrying.specs.Carrying.{Audited, Carries}
-use Rattle.refusal.specs.declared.Refusal.{Refusal}
-use Rattle.refusal.specs.Refusals.{outcome_number}
-use Rattle.posting.specs.Posting.{PostsKnown, PostsAny, transferred, tipped, Posts, Tips}
-use Rattle.carrying.proofs.Next.{work_known, vessels_fit, next_head_is}
+use Rattle.posting.specs.Carrying.{Audited, Carriable, next_head, Countable}
+use Rattle.posting.specs.Posting.{refused_with, said, Posts, Tips, PostsKnown}
+use Rattle.posting.proofs.Next.{work_known, next_head_is, countable, audited_after}
 
-module _ (v : Posting) (h : Head) (t t' : List ℕ) (r : Result Carried Refusal) where
+-- the answer is a refusal, passed on by `?`
+is_refusal : (q : Result Applied Refusal) (why : Refusal) → IsErrAnd q (λ (other : Refusal). other ≡ why) → q ≡ Err why
+is_refusal q why e = grind arith
+
+module _ (v : Posting) (h : Head) (t : List ℕ) where
   abbrev p : Terms
   p = terms v
+
+  abbrev c : Call
+  c = enter v
 
   abbrev checked : ℕ
   checked = first (p.checks (of_head h))
 
   -- where it was refused with number n, and so is the call
-  refusal : (n : ℕ) → number_of h t (enter v) ≡ n → (n ≡ 0 → ⊥) → outcome_number r ≡ n → t' ≡ t → Posts h (enter v) t t' (transferred h r)
-  refusal n e nz er et = grind (arith, refused_on h t (enter v) n e nz)
+  refusal : (n : ℕ) → number_of h t c ≡ n → (n ≡ 0 → ⊥) → Posts h c t t (refused_with h n)
+  refusal n e nz = grind (arith, refused_on h t c n e nz)
+
+  -- refused by 1 or 4
+  pub off_posts : (why : Refusal) → Refusals.number_of why ≡ first (book_checks h t) → (q : Result Applied Refusal) → IsErrAnd q (λ (other : Refusal). other ≡ why)
+      → Posts h c t t (said h q)
+  off_posts why e q eq = rw (is_refusal q why eq) (refusal _ (off_number h t c _ e (some_number why)) (some_number why))
 
   -- On a book known to add up.
   module _ (w : Audited h t) where
@@ -58,65 +72,85 @@ module _ (v : Posting) (h : Head) (t t' : List ℕ) (r : Result Carried Refusal)
     standing : of_head h ≡ of_book b
     standing = standing_same h t k
 
-    number_is : number_of h t (enter v) ≡ own (places_of t) b (meaning (enter v))
+    number_is : number_of h t c ≡ own (length t) b (meaning c)
     unfolding number
-    number_is = grind (arith, nat_tests, number_same (places_of t) h t b k.on k.sound (enter v), no_place t, w.long)
+    number_is = grind (arith, nat_tests, number_same (length t) h t b k.on k.sound c, no_place t, w.long)
 
     checked_is : checked ≡ first (p.checks (of_book b))
     checked_is = ap (λ (g : Standing). first (p.checks g)) standing
 
-    decided : number_of h t (enter v) ≡ if_zero checked (cond full_now 11 0) checked
+    decided : number_of h t c ≡ if_zero checked (cond full_now 11 0) checked
     unfolding takes
     decided =
         let f = k.sound.fits in
-        number_is ∙ rw checked_is (grind (arith, nat_tests, posted_own p (proper v) (places_of t) b, after_length b m, whole p (proper v) (places_of t) b))
+        number_is ∙ rw checked_is (grind (arith, nat_tests, posted_own p (proper v) (length t) b, after_length b m, whole p (proper v) (length t) b))
 
-    carried : checked ≡ 0 → Carries h (motion p (of_head h)) t t' r → Posts h (enter v) t t' (transferred h r)
-    unfolding applied table_left takes
-    carried z c = go full_now refl
+    still : (n : ℕ) → number_of h t c ≡ n → (n ≡ 0 → ⊥) → (q : Result Applied Refusal) → said h q ≡ refused_with h n → PostsKnown v h h t t q
+    still n e nz q eq = record { posts = rw eq (refusal n e nz); audited = w }
+
+    -- refused by a check of its own
+    pub post_refused : (why : Refusal) → Refusals.number_of why ≡ checked → (q : Result Applied Refusal) → IsErrAnd q (λ (other : Refusal). other ≡ why) → PostsKnown v h h t t q
+    post_refused why e q eq =
+        let u : number_of h t c ≡ Refusals.number_of why = decided ∙ rw (← e) (go (Refusals.number_of why) (some_number why)) in
+        still _ u (some_number why) q (ap (said h) (is_refusal q why eq))
       where
-        q : Carries h m t t' r
-        q = subst (λ (g : Standing). Carries h (motion p g) t t' r) standing c
+        go : (n : ℕ) → (n ≡ 0 → ⊥) → if_zero n (cond full_now 11 0) n ≡ n
+        go zero nz = absurd (nz refl)
+        go (suc n) nz = refl
 
-        go : (x : Bool) → full_now ≡ x → Posts h (enter v) t t' (transferred h r)
-        go true e = refusal 11 (decided ∙ rw (z, e) refl) (λ u. omega arith) (rw q.answer (rw e)) (q.table ∙ rw e)
-        go false e =
-            let ea : number_of h t (enter v) ≡ 0 = decided ∙ rw (z, e) refl in
-            let o = accepted_on h t (enter v) ea in
-            let s = (keeps (places_of t) b (enter v) k.sound (sym (number_same (places_of t) h t b k.on k.sound (enter v)) ∙ ea)).sound.sound in
+    -- Past its checks: its motion, and the pieces were moved or there was no place.
+    module _ (z : 0 ≡ checked) (n : Motion) (en : n ≡ motion p (of_head h)) (f : Carriable h n)
+        (t' : List ℕ) (o : Option Applied) (moves : Moves (places_of t) n.moves (takes b n) t t' o) where
+      n_is : n ≡ m
+      n_is = en ∙ ap (motion p) standing
+
+      by_place : number_of h t c ≡ cond full_now 11 0
+      by_place = decided ∙ rw (sym z)
+
+      -- there was no place
+      pub post_full : (why : Refusal) → Err why ≡ ok_or o TableFull → (q : Result Applied Refusal) → IsErrAnd q (λ (other : Refusal). other ≡ why) → PostsKnown v h h t t' q
+      unfolding applied table_left
+      post_full why ew q eq = go full_now refl
+        where
+          mo : Moves (places_of t) m.moves (takes b m) t t' o
+          mo = rw n_is at moves
+
+          go : (x : Bool) → full_now ≡ x → PostsKnown v h h t t' q
+          go true e = subst (λ (s : List ℕ). PostsKnown v h h t s q) (sym (mo.table ∙ rw e))
+              (still 11 (by_place ∙ rw e) (λ u. omega arith) q (ap (said h) (is_refusal q why eq) ∙ grind (arith, mo.answer)))
+          go false e = absurd (grind (arith, mo.answer))
+
+      -- there was one
+      module _ (a : Applied) (ea : o ≡ Some a) where
+        had_place : full_now ≡ false
+        unfolding applied
+        had_place = let e = rw n_is at moves.answer in grind arith
+
+        number_zero : number_of h t c ≡ 0
+        number_zero = by_place ∙ rw had_place
+
+        pub post_countable : Countable h n a
+        post_countable = countable h t w n f a (sym moves.answer ∙ ea)
+
+        sized : SizedBook ((meaning c).next b)
+        sized =
+            let r = rw n_is at f.room in
+            let l = rw n_is at f.tally in
+            record { light = motion_light b m k.light.light (rw (← k.balance) r); tally = l }
+
+        pub post_made : (h' : Head) → h' ≡ next_head h n a → PostsKnown v h h' t t' (Ok a)
+        unfolding applied table_left takes
+        post_made h' eh =
+            let o' = accepted_on h t c number_zero in
+            let s = (keeps (length t) b c k.sound (sym (number_same (length t) h t b k.on k.sound c) ∙ number_zero)).sound.sound in
             let u : Holders h.vessels (pieces_after b m) = all_map (λ q g. g.holder_in) s in
-            let f = (proper v).fits (of_head h) z in
-            let few = vessels_fit h t w in
-            let si : p.source < most_holders = grind (arith, f, (proper v).once) in
-            let di : p.destination < most_holders = grind (arith, f.into) in
-            record { answer = rw o (ap (transferred h) q.answer ∙ rw (e, next_head_is h t w m si di u)); table = rw o (q.table ∙ rw e) }
+            let i = next_head_is h t w m (rw n_is at f.source_in) (rw n_is at f.destination_in) u in
+            let mo : Moves (places_of t) m.moves (takes b m) t t' o = rw n_is at moves in
+            let ae : a ≡ accepted m.moves (takes b m) = grind (arith, mo.answer, had_place) in
+            let he : h' ≡ head_of (book_after b m) = eh ∙ ap (λ (x : Motion). next_head h x a) n_is ∙ ap (next_head h m) ae ∙ i in
+            let posts : Posts h c t t' (said h' (Ok a)) = record { answer = rw o' (rw (he, ae) refl); table = rw o' (mo.table ∙ rw had_place) } in
+            record { posts = posts; audited = rw (ap (λ (r : Transferred). r.head) posts.answer, posts.table) (audited_after h t w c (λ e. sized)) }
 
-    known_posts : PostsKnown p h t t' r → Posts h (enter v) t t' (transferred h r)
-    known_posts o = go checked refl
-      where
-        go : (n : ℕ) → checked ≡ n → Posts h (enter v) t t' (transferred h r)
-        go zero e = carried e (o.carried e)
-        go (suc n) e = let q = o.refused (λ z. omega (arith, e, z)) in refusal (suc n) (decided ∙ rw e refl) (λ z. omega (arith, z)) (q.0 ∙ e) q.1
-
-  pub posts : PostsAny p h t t' r → Posts h (enter v) t t' (transferred h r)
-  posts o = go (first (book_checks h t)) refl
-    where
-      go : (n : ℕ) → first (book_checks h t) ≡ n → Posts h (enter v) t t' (transferred h r)
-      go zero e = let u = o.on e in known_posts u.0 u.1
-      go (suc n) e =
-          let q = o.off (λ z. omega (arith, e, z)) in
-          refusal (suc n) (off_number h t (enter v) (suc n) (sym e) (λ z. omega (arith, z))) (λ z. omega (arith, z)) (q.0 ∙ e) q.1
-
-module _ (h : Head) where
-  pub transfer_known_posts : (x : Transfer) (t t' : List ℕ) (r : Result Carried Refusal) → Audited h t → PostsKnown (terms (by_transfer x)) h t t' r → Posts h (post x) t t' (transferred h r)
-  transfer_known_posts x t t' r = known_posts (by_transfer x) h t t' r
-
-module _ (h : Head) (t t' : List ℕ) (r : Result Carried Refusal) where
-  pub transfer_posts : (x : Transfer) (z : Transferred) → z ≡ transferred h r → PostsAny (terms (by_transfer x)) h t t' r → Posts h (post x) t t' z
-  transfer_posts x z ez o = rw ez (posts (by_transfer x) h t t' r o)
-
-  pub lift_posts : (x : Lift) (z : Transferred) → z ≡ transferred h r → PostsAny (terms (by_lift x)) h t t' r → Posts h (lift x) t t' z
-  lift_posts x z ez o = rw ez (posts (by_lift x) h t t' r o)
-
-  pub tip_posts : (y : Tip) (z : Reply) → z ≡ tipped h r → PostsAny (terms (by_tip y)) h t t' r → Tips h y t t' z
-  tip_posts y z ez o = let p = posts (by_tip y) h t t' r o in record { answer = rw ez (ap (λ (a : Transferred). record { number = a.number; head = a.head }) p.answer); table = p.table }
+-- a tip's answer is less
+pub tips : (h : Head) (y : Tip) (t t' : List ℕ) (r : Transferred) (z : Reply) → Posts h (tip y) t t' r → z ≡ record { number = r.number; head = r.head } → Tips h y t t' z
+tips h y t t' r z p e = record { answer = e ∙ ap (λ (a : Transferred). record { number = a.number; head = a.head }) p.answer; table = p.table }

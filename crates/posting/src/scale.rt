@@ -1,16 +1,16 @@
 // Lift and tip as postings.
 ghost use Rattle.book.specs.Calls.{by_lift, by_tip};
 
-use super::Posting;
+use super::{Posting, motions};
 use book::{Head, Lift, Motion, Tip};
 use ledger::balances;
 use refusal::Refusal;
 
 impl Posting for Lift {
-    ghost pour = { λ x. by_lift x };
+    ghost asked = { λ x. by_lift x };
 
     #[tactic(auto, unfolding(book::specs::Scale::lift_checks, book::specs::Head::balance_at))]
-    fn check(self, head: Head) -> Result<(), Refusal> {
+    fn check(self, head: &Head) -> Result<(), Refusal> {
         if 0 < head.scale {
             return Err(Refusal::ScaleLoaded);
         }
@@ -33,16 +33,16 @@ impl Posting for Lift {
     }
 
     #[tactic(auto, using(std::proofs::lemmas::Bool::Decides::nat_tests), unfolding(book::specs::Scale::lift_checks, book::specs::Head::balance_at))]
-    fn motion(self, _head: Head) -> Motion {
-        carrying::lift_motion(self)
+    fn motion(self, _head: &Head) -> Motion {
+        motions::lift_motion(self)
     }
 }
 
 impl Posting for Tip {
-    ghost pour = { λ y. by_tip y };
+    ghost asked = { λ y. by_tip y };
 
     #[tactic(auto, unfolding(book::specs::Scale::tip_checks, book::specs::Head::balance_at))]
-    fn check(self, head: Head) -> Result<(), Refusal> {
+    fn check(self, head: &Head) -> Result<(), Refusal> {
         if head.scale == 0 {
             return Err(Refusal::ScaleBare);
         }
@@ -52,7 +52,7 @@ impl Posting for Tip {
         if self.minute < head.last {
             return Err(Refusal::ClockBack);
         }
-        let balance = balances::balance_at(&head, self.destination);
+        let balance = balances::balance_at(head, self.destination);
         if (refusal::TOP as u64) < (balance as u64) + (head.scale as u64) {
             return Err(Refusal::Overfull);
         }
@@ -60,7 +60,7 @@ impl Posting for Tip {
     }
 
     #[tactic(auto, using(std::proofs::lemmas::Bool::Decides::nat_tests), unfolding(book::specs::Scale::tip_checks, book::specs::Head::balance_at))]
-    fn motion(self, head: Head) -> Motion {
-        carrying::tip_motion(head, self)
+    fn motion(self, head: &Head) -> Motion {
+        motions::tip_motion(head, self)
     }
 }

@@ -1,4 +1,3 @@
 pub mod RunLaws
-pub mod ByLanes
 pub mod Making
 pub mod NoMovement

@@ -1,72 +1,48 @@
--- A run by lanes: it begins with none of its pieces there, and makes one movement after the other. What `Going` says of it is said of the table as it would be.
+-- A run makes one movement after the other. What `Going` says of it is said of the table as it would be, were the pieces of its book written into it.
 -- Assumes nothing.
-use Rattle.std.proofs.Common.{◌≡◌, refl, sym, ap, List, [], ℕ, ◌+◌, ◌≤◌, ◌<◌, arith}
+use Rattle.std.proofs.Common.{◌≡◌, refl, List, ℕ, ◌+◌, ◌≤◌, ◌<◌}
 use Rattle.std.specs.Prelude.{Result, Ok, Err}
 use Rattle.refusal.specs.declared.Refusal.{Refusal}
 use Rattle.refusal.specs.Numbers.{if_zero}
 use Rattle.refusal.specs.Refusals.{number_of}
 use Rattle.refusal.proofs.Refusals.{some_number}
-use Rattle.table.specs.Table.{flat, lay}
-use Rattle.taking.specs.Stirring.{stirred_rule}
 use Rattle.taking.specs.declared.Applied.{Applied}
-use Rattle.lanes.specs.Lanes.{Contents}
 use Rattle.book.specs.declared.Head.{Head}
 use Rattle.book.specs.declared.Transfer.{Transfer}
 use Rattle.book.specs.Head.{empty_head}
 use Rattle.book.specs.Calls.{post}
-use Rattle.carrying.specs.Carrying.{Audited}
-use Rattle.carrying.proofs.Next.{work_known}
-use Rattle.posting.specs.Posting.{refused_with, Posts}
+use Rattle.posting.specs.Posting.{refused_with, said, Posts}
+use Rattle.lane_book.specs.declared.LaneBook.{LaneBook}
+use Rattle.lane_book.specs.LaneBook.{written, Stands, Opened, Enters}
 use Rattle.sheet.specs.declared.answer.Header.{Header}
 use Rattle.sheet.specs.Answers.{header_numbers}
+use Rattle.sheet.specs.Sheet.{rule_of, vessels_of}
 use Rattle.run.specs.declared.Ran.{Ran}
 use Rattle.run.specs.Run.{transfer_at, transfers_of, Gives, run_from}
-use Rattle.run.specs.ByLanes.{written, InLanes, said, Steps}
 use Rattle.run.proofs.RunLaws.{Going, going_stop, going_next}
 
--- no piece is written
-none_written : (t : List ℕ) → lay [] t ≡ t
-unfolding flat
-none_written t = refl
-
--- The start: no piece lies in the lanes, and the table is as it was lent.
-module _ (h : Head) (t : List ℕ) (w : Audited h t) (fresh : h ≡ empty_head h.rule h.vessels) where
-  pub rule_fits : h.rule < stirred_rule
-  rule_fits = let u = (work_known h t w).sound.known in omega (arith, u)
-
-  module _ (c : Contents) (none : c ≡ record { rule = h.rule; pieces = [] }) where
-    pub starts : Audited h (written c t) × InLanes h c t
-    starts = (
-      rw (none, none_written) w,
-      record {
-        rules = ap (λ (k : Head). k.rules) fresh;
-        rule = rw none refl;
-        count = rw none (sym (ap (λ (k : Head). k.pieces) fresh));
-        room = rw none (omega arith);
-      },
-    )
-
-    pub as_lent : (s t' : List ℕ) (r : Ran) → Gives (run_from 0 0 h (written c t) (transfers_of s)) t' r → Gives (run_from 0 0 h t (transfers_of s)) t' r
-    as_lent s t' r g = rw (none, none_written) at g
-
--- Where it stands before movement i: with the table as it would be, and what lies in the lanes beside the head.
-pub record Making (s : List ℕ) (h₀ : Head) (t₀ : List ℕ) (h : Head) (c : Contents) (t : List ℕ) (even i : ℕ) : Type 0 where
-  pub going : Going s h₀ t₀ h (written c t) even i
-  pub kept : InLanes h c t
+-- Where it stands before movement i.
+pub record Making (s : List ℕ) (h₀ : Head) (t₀ : List ℕ) (b : LaneBook) (t : List ℕ) (even i : ℕ) : Type 0 where
+  pub going : Going s h₀ t₀ b.head (written b t) even i
+  pub stands : Stands b t
 
 -- It makes one movement after the other.
-module _ (s : List ℕ) (h₀ : Head) (t₀ : List ℕ) (h : Head) (c : Contents) (t : List ℕ) (even i : ℕ) (g : Making s h₀ t₀ h c t even i)
+module _ (s : List ℕ) (h₀ : Head) (t₀ : List ℕ) (b : LaneBook) (t : List ℕ) (even i : ℕ) (g : Making s h₀ t₀ b t even i)
     (header : Header) (told : header ≡ header_numbers s) (q : i < header.movements) (x : Transfer) (ex : x ≡ transfer_at s i)
-    (h' : Head) (c' : Contents) (r : Result Applied Refusal) (steps : Steps x t h h' c c' r) where
-  posts_here : Posts h (post (transfer_at s i)) (written c t) (written c' t) (said h' r)
-  posts_here = rw ex at steps.posts
+    (b' : LaneBook) (t' : List ℕ) (r : Result Applied Refusal) (enters : Enters x b b' t t' r) where
+  posts_here : Posts b.head (post (transfer_at s i)) (written b t) (written b' t') (said b'.head r)
+  posts_here = rw ex at enters.posts
 
   pub made_refused : (why : Refusal) → r ≡ Err why → (n : ℕ) → n ≡ number_of why
-      → Gives (run_from 0 0 h₀ t₀ (transfers_of s)) (written c' t) (record { number = n; index = i; even = even; head = h' })
+      → Gives (run_from 0 0 h₀ t₀ (transfers_of s)) (written b' t') (record { number = n; index = i; even = even; head = b'.head })
   made_refused why e n en =
-      rw (en, (steps.still why e).0) (going_stop s h₀ t₀ h (written c t) even i g.going header told (refused_with h' (number_of why)) (written c' t) q (rw e at posts_here) (some_number why))
+      rw en (going_stop s h₀ t₀ b.head (written b t) even i g.going header told (refused_with b'.head (number_of why)) (written b' t') q (rw e at posts_here) (some_number why))
 
-  pub made_on : (a : Applied) → r ≡ Ok a → (one : ℕ) → (one ≡ if_zero (a.split + a.born) 1 0) × (one ≤ 1)
-      → Making s h₀ t₀ h' c' t (even + one) (i + 1)
+  pub made_on : (a : Applied) → r ≡ Ok a → (one : ℕ) → (one ≡ if_zero (a.split + a.born) 1 0) × (one ≤ 1) → Making s h₀ t₀ b' t' (even + one) (i + 1)
   made_on a e one eo =
-      record { going = going_next s h₀ t₀ h (written c t) even i g.going header told (said h' (Ok a)) (written c' t) q (rw e at posts_here) refl one eo; kept = steps.kept }
+      record { going = going_next s h₀ t₀ b.head (written b t) even i g.going header told (said b'.head (Ok a)) (written b' t') q (rw e at posts_here) refl one eo; stands = enters.stands }
+
+-- a run on a fresh book
+pub made_fresh : (s t t' : List ℕ) (header : Header) → header ≡ header_numbers s → (b b' : LaneBook) → Opened header.rule header.vessels b → (r : Ran)
+    → Gives (run_from 0 0 b.head (written b t) (transfers_of s)) (written b' t') r → Gives (run_from 0 0 (empty_head (rule_of s) (vessels_of s)) t (transfers_of s)) (written b' t') r
+made_fresh s t t' header told b b' o r g = let o' = rw told at o in rw (o'.bare t, o'.head) at g

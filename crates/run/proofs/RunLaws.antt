@@ -1,4 +1,4 @@
--- The run, by what is left: the book is known to add up at every movement, and going on from here ends as going on from the start does.
+-- The run, by what is left: going on from here ends as going on from the start does.
 -- Assumes nothing.
 use Rattle.std.proofs.Common.{◌≡◌, refl, sym, ap, ◌∙◌, Bool, true, false, ltb, ltb-false, List, [], ◌∷◌, ℕ, zero, suc, ◌+◌, ◌*◌, ◌≤◌, ◌<◌, add-one, arith, length, drop, drop_of_length-le, drop-drop, lt-ltb, le-ltb}
 use Rattle.refusal.specs.Numbers.{◌if◌, first, if_zero}
@@ -6,17 +6,13 @@ use Rattle.refusal.proofs.Numbers.{not_zero, first_zero}
 use Rattle.book.specs.declared.Head.{Head}
 use Rattle.book.specs.declared.Transfer.{Transfer}
 use Rattle.book.specs.declared.Transferred.{Transferred}
-use Rattle.book.specs.Head.{most_vessels, empty_head, open_checks, opening}
+use Rattle.book.specs.Head.{empty_head, open_checks, opening}
 use Rattle.book.specs.Transfer.{transfer_of}
 use Rattle.book.specs.Calls.{post, even_of, meaning}
 use Rattle.book.specs.Memory.{Outcome, outcome, call_on}
 use Rattle.book.specs.Memory as Memory
 use Rattle.book.proofs.Memory.{refused_memory}
-use Rattle.book.proofs.Known.{known_up}
-use Rattle.carrying.specs.Carrying.{Audited}
 use Rattle.posting.specs.Posting.{Posts}
-use Rattle.book.proofs.HeadLaws.{openable}
-use Rattle.book.proofs.After.{known_after, length_after, fresh_known}
 use Rattle.run.specs.declared.Ran.{Ran}
 use Rattle.sheet.specs.Answers.{header_numbers}
 use Rattle.fields.specs.Movements.{entry_size}
@@ -26,7 +22,7 @@ use Rattle.refusal.specs.declared.Refusal.{Refusal}
 use Rattle.refusal.specs.Refusals.{number_of}
 use Rattle.refusal.proofs.Refusals.{some_number}
 use Rattle.sheet.specs.declared.answer.Header.{Header}
-use Rattle.run.specs.Run.{not_run, transfer_in, transfer_at, transfers_of, Running, Gives, ended, go_on, run_from, run_number, running}
+use Rattle.run.specs.Run.{not_run, transfer_in, transfer_at, transfers_of, Running, Gives, ended, go_on, run_from, run_number, running, CanRun}
 use Rattle.sheet.proofs.ReadLaws.{good}
 use Rattle.fields.proofs.GroupLaws.{length_groups, group_at, next_group}
 
@@ -49,10 +45,9 @@ even_said h t x e = go (Memory.number_of h t (post x)) e
     go zero e = refl
     go (suc n) e = absurd (omega arith)
 
--- Where a run stands before movement i, with this table: so many were even, the book is known, and going on ends as it should.
+-- Where a run stands before movement i, with this table: so many were even, and going on ends as it should.
 pub record Going (s : List ℕ) (h₀ : Head) (t₀ : List ℕ) (h : Head) (t : List ℕ) (even i : ℕ) : Type 0 where
   pub some_even : even ≤ i
-  pub audited : Audited h t
   pub left : run_from i even h t (drop i (transfers_of s)) ≡ run_from 0 0 h₀ t₀ (transfers_of s)
 
 module _ (s : List ℕ) (h₀ : Head) (t₀ : List ℕ) (h : Head) (t : List ℕ) (even i : ℕ) (g : Going s h₀ t₀ h t even i)
@@ -72,30 +67,28 @@ module _ (s : List ℕ) (h₀ : Head) (t₀ : List ℕ) (h : Head) (t : List ℕ
     same_number = ap (λ (z : Transferred). z.number) posts.answer
 
     -- a movement is refused, and ends the run
-    pub going_stop : (made.number ≡ 0 → ⊥) → Gives all t' (record { number = made.number; index = i; even = even; head = h })
+    pub going_stop : (made.number ≡ 0 → ⊥) → Gives all t' (record { number = made.number; index = i; even = even; head = made.head })
     going_stop nz = rw (← (here q)) (go o.number same_number (λ u. nz (same_number ∙ u)))
       where
+        kept : (o.head ≡ h) × (o.table ≡ t)
+        kept = refused_memory h t (post (transfer_at s i)) (λ v. nz (same_number ∙ v))
+
+        same_head : made.head ≡ h
+        same_head = ap (λ (z : Transferred). z.head) posts.answer ∙ kept.0
+
         go : (n : ℕ) → made.number ≡ n → (n ≡ 0 → ⊥)
-            → Gives (go_on (λ even' h' t'. run_from (suc i) even' h' t' (drop (i + 1) (transfers_of s))) i even h t (transfer_at s i) o n) t' (record { number = made.number; index = i; even = even; head = h })
+            → Gives (go_on (λ even' h' t'. run_from (suc i) even' h' t' (drop (i + 1) (transfers_of s))) i even h t (transfer_at s i) o n) t' (record { number = made.number; index = i; even = even; head = made.head })
         go zero u nn = absurd (nn refl)
-        go (suc n) u nn = record { answer_is = rw u; table_is = posts.table ∙ (refused_memory h t (post (transfer_at s i)) (λ v. nz (same_number ∙ v))).1 }
+        go (suc n) u nn = record { answer_is = rw (u, same_head) refl; table_is = posts.table ∙ kept.1 }
 
     -- it is accepted, and the run goes on
     module _ (z : made.number ≡ 0) (one : ℕ) (eo : (one ≡ if_zero (made.split + made.born) 1 0) × (one ≤ 1)) where
       pub going_next : Going s h₀ t₀ made.head t' (even + one) (i + 1)
       going_next =
-          let known = known_up h t g.audited.sized g.audited.book_adds_up in
-          let u = known_after h t known (transfer_at s i) in
-          let v = length_after h t known (transfer_at s i) in
           let n : o.number ≡ 0 = sym same_number ∙ z in
           let es : one ≡ o.even = eo.0 ∙ ap (λ (z : Transferred). if_zero (z.split + z.born) 1 0) posts.answer ∙ sym (even_said h t (transfer_at s i) n) in
           record {
             some_even = omega (arith, g.some_even, eo.1);
-            audited = record {
-              long = rw (posts.table, v) g.audited.long;
-              book_adds_up = rw (posts.answer, posts.table) u.adds;
-              sized = rw posts.answer u.sized;
-            };
             left = rw (add-one, es, posts.answer, posts.table) (rw (n, add-one) at (here q));
           }
 
@@ -144,7 +137,7 @@ module _ (s t : List ℕ) where
       go zero nz = absurd (nz refl)
       go (suc n) nz = record { answer_is = refl; table_is = refl }
 
-  module _ (known : List ℕ) (e : (known ≡ s) × (run_number s t ≡ 0)) (header : Header) (told : header ≡ header_numbers known) where
+  module _ (known : List ℕ) (e : (known ≡ s) × (run_number s t ≡ 0)) where
     reads : read_number s ≡ 0
     unfolding run_number
     reads = first_zero (read_number s) _ e.1
@@ -157,18 +150,9 @@ module _ (s t : List ℕ) where
         go true q z = absurd (omega (arith, z))
         go false q z = ltb-false (length t) 4 q
 
-    pub few_vessels : header.vessels ≤ most_vessels
-    few_vessels = rw (told, e.0) (openable (rule_of s) (vessels_of s) (opens_well s reads)).few_vessels
+    pub run_ready : CanRun known t
+    run_ready = rw e.0 (record { opens = opens_well s reads; long = long })
 
-    module _ (fresh : Head) (ef : fresh ≡ empty_head header.rule header.vessels) where
-      is_fresh : fresh ≡ empty_head (rule_of s) (vessels_of s)
-      is_fresh = ef ∙ rw (told, e.0)
-
-      pub run_ready : Audited fresh t
-      run_ready =
-          let k = fresh_known (rule_of s) (vessels_of s) t (opens_well s reads) in
-          rw is_fresh (record { long = long; book_adds_up = k.adds; sized = k.sized })
-
-      pub run_whole : (z : Ran) (t' : List ℕ) → Gives (run_from 0 0 fresh t (transfers_of known)) t' z → Gives (running s t) t' z
-      unfolding running
-      run_whole z t' p = rw (e.1, fresh_opened (rule_of s) (vessels_of s) (opens_well s reads)) (rw (is_fresh, e.0) at p)
+    pub run_whole : (z : Ran) (t' : List ℕ) → Gives (run_from 0 0 (empty_head (rule_of known) (vessels_of known)) t (transfers_of known)) t' z → Gives (running s t) t' z
+    unfolding running
+    run_whole z t' p = rw (e.1, fresh_opened (rule_of s) (vessels_of s) (opens_well s reads)) (rw e.0 at p)

@@ -1,17 +1,18 @@
 -- A run: "A run reads the sheet, checks 1, opens a book and transfers until one is refused; its answer has that number, the movement's
 -- index from 0 (M if all passed), and the even count. It stops with the head and table after the last accepted one."
 -- Definitions only. Assumes nothing.
-use Rattle.std.specs.Prelude.{◌≡◌, List, [], ◌∷◌, ℕ, zero, suc, ◌+◌, ◌*◌, ltb, length, drop, Result, MatchResult}
+use Rattle.std.specs.Prelude.{◌≡◌, List, [], ◌∷◌, ℕ, zero, suc, ◌+◌, ◌*◌, ◌≤◌, ltb, length, drop, Result, MatchResult}
 use Rattle.refusal.specs.Numbers.{◌if◌, first, if_zero}
 use Rattle.book.specs.declared.Head.{Head}
 use Rattle.book.specs.declared.Transfer.{Transfer}
-use Rattle.book.specs.Head.{empty_head, opening}
+use Rattle.book.specs.Head.{empty_head, open_checks, opening}
 use Rattle.book.specs.Transfer.{transfer_of}
 use Rattle.book.specs.Calls.{post}
 use Rattle.book.specs.Memory.{Outcome, call_on}
 use Rattle.refusal.specs.declared.Refusal.{Refusal}
 use Rattle.refusal.specs.Refusals.{number_of}
 use Rattle.run.specs.declared.Ran.{Ran}
+use Rattle.run.specs.declared.Stop.{Stop}
 use Rattle.fields.specs.Bytes.{groups}
 use Rattle.fields.specs.Movements.{entry_size, entry_in}
 use Rattle.fields.specs.Layout.{entries_start}
@@ -41,6 +42,10 @@ ended n i even h t = record { answer = record { number = n; index = i; even = ev
 abbrev pub not_run : ℕ → Ran
 not_run n = record { number = n; index = 0; even = 0; head = empty_head 0 0 }
 
+-- what is yielded by a run that stopped so, with this head
+abbrev pub ran_to : Stop → Head → Ran
+ran_to s h = record { number = s.number; index = s.index; even = s.even; head = h }
+
 -- What running promises: the answer and the table are those of y.
 pub record Gives (y : Running) (t' : List ℕ) (r : Ran) : Type 0 where
   pub answer_is : r ≡ y.answer
@@ -67,3 +72,8 @@ running s t =
 -- What its checks find: the sheet, or the refusal.
 abbrev pub Checked : List ℕ → List ℕ → Result (List ℕ) Refusal → Type 0
 Checked s t r = MatchResult r (λ sheet. (sheet ≡ s) × (run_number s t ≡ 0)) (λ why. number_of why ≡ run_number s t)
+
+-- What a run that begins asks: its sheet opens a book, and the table has a place.
+pub record CanRun (s t : List ℕ) : Type 0 where
+  pub opens : first (open_checks (rule_of s) (vessels_of s)) ≡ 0
+  pub long : 4 ≤ length t

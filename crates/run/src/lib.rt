@@ -1,21 +1,19 @@
 // A run of a sheet: its movements made one after the other on a fresh book.
 #![tactic(auto)]
 
-ghost use Rattle.std.specs.Prelude.{◌≡◌, ◌<◌, ◌≤◌, ◌+◌, ◌*◌, length};
+ghost use Rattle.std.specs.Prelude.{◌≡◌, ◌<◌, ◌≤◌, ◌+◌};
 ghost use Rattle.refusal.specs.Numbers.{if_zero};
-ghost use Rattle.book.specs.Head.{empty_head};
 ghost use Rattle.refusal.specs.Refusals.{number_of};
-ghost use Rattle.carrying.specs.Carrying.{Audited};
-ghost use Rattle.sheet.specs.Sheet.{movements_of};
-ghost use Rattle.run.specs.Run.{transfer_at, transfers_of, not_run, Gives, run_from, running, Checked};
-ghost use Rattle.run.specs.ByLanes.{written, InLanes, Steps};
+ghost use Rattle.book.specs.Head.{empty_head};
+ghost use Rattle.lane_book.specs.LaneBook.{written, Stands};
+ghost use Rattle.sheet.specs.Sheet.{rule_of, vessels_of, movements_of};
+ghost use Rattle.run.specs.Run.{transfer_at, transfers_of, not_run, ran_to, Gives, run_from, running, Checked, CanRun};
 
 use book::{Head, Transfer};
-use lanes::Lanes;
-use posting::transfers;
+use lane_book::LaneBook;
+use taking::Applied;
 use refusal::Refusal;
 use sheet::Sheet;
-use taking::Applied;
 
 // What a run yields: the number of the movement that stopped it or 0, that movement's index or the count of all, the even count, and
 // the head after the last accepted movement. C gets it by value, so that a number tells a refusal.
@@ -26,6 +24,14 @@ pub struct Ran {
     pub index: u32,
     pub even: u32,
     pub head: Head,
+}
+
+// Where a run stopped: what it yields but for the head.
+#[derive(Clone, Copy, Debug, PartialEq, Eq)]
+struct Stop {
+    number: u32,
+    index: u32,
+    even: u32,
 }
 
 // A run that did not begin.
@@ -62,61 +68,49 @@ fn transfer_at(sheet: &Sheet, i: u32) -> Transfer
     }
 }
 
-// A transfer is made in lanes. The table is only looked at.
-fn make(x: Transfer, table: &[u32], head: &mut Head, lanes: &mut Lanes) -> Result<Applied, Refusal>
-    requires { Audited head.old (written lanes.old table.now) × InLanes head.old lanes.old table.now }
-    ensures { Steps x table.now head.old head.new lanes.old lanes.new result }
-{
-    transfers::check_transfer(head, x)?;
-    let m = carrying::motion_of(x);
-    let moved = lanes
-        .move_pieces(table::places(table), m.moves)
-        .ok_or(Refusal::TableFull)?;
-    carrying::advance(head, m, moved);
-    Ok(moved)
-}
-
 // All movements are made in turn, until one is refused.
-fn make_all(sheet: &Sheet, table: &[u32], fresh: Head, lanes: &mut Lanes) -> Ran
-    requires { Audited fresh (written lanes.old table.now) × InLanes fresh lanes.old table.now }
-    ensures given { Gives (run_from 0 0 fresh (written lanes.old table.now) (transfers_of sheet.now)) (written lanes.new table.now) result }
-    ensures room { 4 * length lanes.new.pieces ≤ length table.now }
+fn make_all(sheet: &Sheet, table: &mut [u32], book: &mut LaneBook) -> Stop
+    requires { Stands book.old table.old }
+    ensures given { Gives (run_from 0 0 book.old.head (written book.old table.old) (transfers_of sheet.now)) (written book.new table.new) (ran_to result book.new.head) }
+    ensures stands { Stands book.new table.new }
 {
     let movements = sheet.header().movements;
-    let mut head = fresh;
     let mut even = 0;
     for i in 0..movements {
-        match make(transfer_at(sheet, i), table, &mut head, lanes) {
+        match book.post(table, transfer_at(sheet, i)) {
             Ok(made) => {
                 even += count_even(made);
             }
             Err(why) => {
-                return Ran {
+                return Stop {
                     number: u32::from(why),
                     index: i,
                     even,
-                    head,
                 };
             }
         }
     }
-    Ran {
+    Stop {
         number: 0,
         index: movements,
         even,
-        head,
     }
 }
 
 // All movements are made on a fresh book, and the table is written.
-fn run_known(sheet: &Sheet, fresh: Head, table: &mut [u32]) -> Ran
-    requires { Audited fresh table.old × (fresh ≡ empty_head fresh.rule fresh.vessels) }
-    ensures { Gives (run_from 0 0 fresh table.old (transfers_of sheet.now)) table.new result }
+fn run_known(sheet: &Sheet, table: &mut [u32]) -> Ran
+    requires { CanRun sheet.now table.old }
+    ensures { Gives (run_from 0 0 (empty_head (rule_of sheet.now) (vessels_of sheet.now)) table.old (transfers_of sheet.now)) table.new result }
 {
-    let mut lanes = Lanes::new(fresh.rule);
-    let ran = make_all(sheet, table, fresh, &mut lanes);
-    lanes.lay(table);
-    ran
+    let header = sheet.header();
+    let mut book = LaneBook::open(header.rule, header.vessels);
+    let stop = make_all(sheet, table, &mut book);
+    Ran {
+        number: stop.number,
+        index: stop.index,
+        even: stop.even,
+        head: book.close(table),
+    }
 }
 
 // The sheet, if it reads well and the table has a place.
@@ -136,11 +130,7 @@ pub fn run(sheet: &[u8], table: &mut [u32]) -> Ran
     ensures { Gives (running sheet.now table.old) table.new result }
 {
     match check(sheet, table) {
-        Ok(known) => {
-            let header = known.header();
-            let fresh = ledger::opening::empty_head(header.rule, header.vessels);
-            run_known(&known, fresh, table)
-        }
+        Ok(known) => run_known(&known, table),
         Err(why) => refused(why),
     }
 }

@@ -1,7 +1,6 @@
 -- A motion on a book known to add up: the pieces moved and the next head are together the book after it.
 -- Assumes nothing.
-use Rattle.std.specs.Option.{ok_or}
-use Rattle.std.proofs.Common.{◌≡◌, ◌∙◌, Option, Some, Result, Ok, List, ℕ, ◌+◌, ◌-◌, ◌≤◌, ◌<◌, arith, eqb}
+use Rattle.std.proofs.Common.{◌≡◌, ◌∙◌, Some, List, ℕ, ◌+◌, ◌-◌, ◌≤◌, ◌<◌, arith, eqb}
 use Rattle.std.proofs.lemmas.Bool.Decides.{nat_tests}
 use Rattle.table.specs.Pieces.{only, held, All}
 use Rattle.table.specs.Closing.{Present}
@@ -9,23 +8,24 @@ use Rattle.table.specs.Table.{pieces_of, places_of, places_in}
 use Rattle.table.proofs.Pieces.{all_map}
 use Rattle.table.proofs.Table.{places_fit}
 use Rattle.taking.specs.Taken.{Taken}
-use Rattle.taking.specs.Taking.{handed, taken}
+use Rattle.taking.specs.Taking.{handed}
 use Rattle.taking.specs.declared.Applied.{Applied}
 use Rattle.taking.specs.Applied.{accepted, applied}
-use Rattle.moving.specs.Moves.{Ready, Moves}
+use Rattle.moving.specs.Moves.{Ready}
 use Rattle.refusal.specs.Numbers.{first}
 use Rattle.book.specs.declared.Head.{Head}
 use Rattle.book.specs.declared.Motion.{Motion}
-use Rattle.refusal.specs.declared.Refusal.{Refusal}
-use Rattle.book.specs.Head.{Book, most_vessels, most_holders, Sized, Shiftable, balance_at, with_balance, holdings, shifted, head_of, book_of, rule_at}
+use Rattle.book.specs.Head.{Book, most_vessels, most_holders, Sized, Shiftable, balance_at, with_balance, holdings, shifted, head_of, book_of}
 use Rattle.book.specs.Motion.{takes, pieces_after, book_after}
-use Rattle.book.specs.Memory.{book_checks}
+use Rattle.book.specs.Memory.{book_checks, number_of, call_on}
 use Rattle.book.proofs.HolderLaws.{holder_bound}
 use Rattle.book.proofs.BalanceLaws.{Holders, Matches, matches_balances, long_balances, shift_matches, shift_there}
-use Rattle.book.proofs.Sound.{takes_fair, held_after}
+use Rattle.book.proofs.Sound.{takes_fair, held_after, SizedBook}
 use Rattle.book.proofs.Memory.{book_passed}
 use Rattle.book.proofs.Known.{Known, known_up}
-use Rattle.carrying.specs.Carrying.{Audited, Carriable, next_head, Countable}
+use Rattle.posting.specs.Carrying.{Audited, Carriable, next_head, Countable}
+use Rattle.book.proofs.After.{known_after, length_after}
+use Rattle.book.specs.Calls.{Call, meaning}
 
 -- past 1 and 4
 pub audited : (h : Head) (t : List ℕ) (n : ℕ) → (n ≡ first (book_checks h t)) × Sized h → n ≡ 0 → Audited h t
@@ -91,9 +91,10 @@ module _ (h : Head) (t : List ℕ) (w : Audited h t) (m : Motion) where
     unfolding places_in applied takes
     countable a e = grind (arith, nat_tests, born_is, shifts)
 
-    -- it was carried, whatever is answered where it was not
-    pub move_countable : (p : ℕ) → p ≡ places_of t → (rule : ℕ) → rule ≡ rule_at h.rules m.moves.source → (t' : List ℕ) (o : Option Applied)
-        → Moves p m.moves (taken rule m.moves (pieces_of h.pieces t)) t t' o
-        → (a : Applied) (why : Refusal) (z : Result Applied Refusal) → z ≡ ok_or o why → z ≡ Ok a → Countable h m a
-    unfolding takes
-    move_countable p ep rule er t' o moves a why z ez ea = countable a (grind (arith, moves.answer))
+-- After a call the book adds up again, if an accepted one leaves numbers of 32 bits.
+pub audited_after : (h : Head) (t : List ℕ) (w : Audited h t) (c : Call) → (number_of h t c ≡ 0 → SizedBook ((meaning c).next (book_of h t)))
+    → Audited (call_on h t c).head (call_on h t c).table
+audited_after h t w c z =
+    let k = work_known h t w in
+    let after = known_after h t k c z in
+    record { long = rw (length_after h t k c) w.long; book_adds_up = after.adds; sized = after.sized }

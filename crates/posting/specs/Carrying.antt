@@ -1,19 +1,13 @@
--- Carrying a motion: what it asks and promises, and how the code makes the next head, where two balances change. proofs/Next.antt shows that this is
--- the head of the book that the motion leaves.
+-- Carrying a motion: what it asks, and how the code makes the next head, where two balances change. proofs/Next.antt shows that this is the head of the
+-- book that the motion leaves.
 -- Definitions only. Assumes nothing.
-use Rattle.std.specs.Prelude.{◌≡◌, ◌≢◌, true, List, ℕ, ◌+◌, ◌-◌, ◌≤◌, ◌<◌, length, Option, None, Some, Result, Ok, Err}
+use Rattle.std.specs.Prelude.{◌≡◌, ◌≢◌, true, List, ℕ, ◌+◌, ◌-◌, ◌≤◌, ◌<◌, length, Option, None, Some}
 use Rattle.refusal.specs.Numbers.{TOP}
-use Rattle.table.specs.Table.{most_places, places_of}
+use Rattle.table.specs.Table.{most_places}
 use Rattle.taking.specs.declared.Applied.{Applied}
-use Rattle.taking.specs.Applied.{applied}
-use Rattle.moving.specs.Moves.{table_left}
 use Rattle.book.specs.declared.Head.{Head}
 use Rattle.book.specs.declared.Motion.{Motion}
-use Rattle.carrying.specs.declared.Carried.{Carried}
-use Rattle.refusal.specs.declared.Refusal.{Refusal}
-use Rattle.refusal.specs.declared.Refusal.TheVariants.{TableFull}
-use Rattle.book.specs.Head.{most_holders, Sized, Shiftable, balance_at, shifted, book_of, adds_up}
-use Rattle.book.specs.Motion.{takes}
+use Rattle.book.specs.Head.{most_holders, Sized, Shiftable, balance_at, shifted, adds_up}
 
 -- A book in memory that is known to add up.
 pub record Audited (h : Head) (t : List ℕ) : Type 0 where
@@ -29,11 +23,15 @@ pub record Carriable (h : Head) (m : Motion) : Type 0 where
   pub room : balance_at h m.moves.destination + m.moves.weight ≤ TOP
   pub tally : h.accepted + m.counts ≤ TOP
 
--- the head after the motion m, whose pieces were moved so
+-- the head after the motion m, whose pieces were moved so; and as it was, where there was no place for them
 abbrev pub next_head : Head → Motion → Applied → Head
 next_head h m a =
     let s = shifted h m.moves.source (m.moves.weight - a.born) m.moves.destination m.moves.weight in
     record { rule = s.rule; vessels = s.vessels; pieces = a.count; last = m.minute; accepted = h.accepted + m.counts; balances = s.balances; scale = s.scale; rules = s.rules }
+
+abbrev pub head_after : Head → Motion → Option Applied → Head
+head_after h m None = h
+head_after h m (Some a) = next_head h m a
 
 -- The numbers of that head are ones of 32 bits.
 pub record Countable (h : Head) (m : Motion) (a : Applied) : Type 0 where
@@ -41,13 +39,3 @@ pub record Countable (h : Head) (m : Motion) (a : Applied) : Type 0 where
   pub part : a.born ≤ m.moves.weight
   pub shifts : Shiftable h m.moves.source (m.moves.weight - a.born) m.moves.destination m.moves.weight
   pub tally : h.accepted + m.counts ≤ TOP
-
--- what is answered where the pieces were moved, or there was no place
-abbrev pub concluded : Head → Motion → Option Applied → Result Carried Refusal
-concluded h m None = Err TableFull
-concluded h m (Some a) = Ok (record { head = next_head h m a; whole = a.whole; split = a.split; born = a.born })
-
--- What carrying a motion promises: the pieces are those that it takes from the book.
-pub record Carries (h : Head) (m : Motion) (t t' : List ℕ) (r : Result Carried Refusal) : Type 0 where
-  pub answer : r ≡ concluded h m (applied (places_of t) m.moves (takes (book_of h t) m))
-  pub table : t' ≡ table_left (places_of t) m.moves (takes (book_of h t) m) t

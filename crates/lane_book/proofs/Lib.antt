@@ -1,0 +1,2 @@
+pub mod InLanes
+pub mod Fresh
