@@ -14,7 +14,7 @@ use taking::{Applied, Move};
 
 // How far a move has come: so many pieces have gone whole, and so much weight is still wanted.
 #[derive(Clone, Copy)]
-struct Progress {
+pub(crate) struct Progress {
     whole: usize,
     left: u32,
 }
