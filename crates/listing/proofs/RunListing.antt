@@ -9,7 +9,8 @@ use Rattle.table.proofs.Table.{places_fit}
 use Rattle.book.proofs.Known.{AddsUp, adds_up_told}
 use Rattle.run.specs.declared.Ran.{Ran}
 use Rattle.run.specs.Run.{Running, Gives, run_number, running}
-use Rattle.runs.proofs.RunTheorem.{refused_run, run_theorem}
+use Rattle.run.proofs.InWords.{refused_run}
+use Rattle.runs.proofs.RunTheorem.{run_theorem}
 use Rattle.listing.specs.Listing.{Listed, listing_text, book_text, refused_line, listing_of, sheet_listing, room_for, listing_room}
 
 few_places : (t : List ℕ) → places_of t ≤ most_places

@@ -1,3 +1,4 @@
 pub mod RunLaws
 pub mod Making
 pub mod NoMovement
+pub mod InWords

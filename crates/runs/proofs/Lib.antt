@@ -1,2 +1,1 @@
 pub mod RunTheorem
-pub mod InWords

@@ -22,6 +22,7 @@ use Rattle.sheet.specs.Sheet.{rule_of, vessels_of, movements_of, read_number}
 use Rattle.run.specs.Run.{transfers_of, Running, ended, go_on, run_from, run_number, running}
 use Rattle.fields.proofs.GroupLaws.{length_groups}
 use Rattle.run.proofs.RunLaws.{opened_well}
+use Rattle.run.proofs.InWords.{refused_run}
 
 -- the first n transfers, as calls
 abbrev pub calls_from : ℕ → List Transfer → List Call
@@ -125,11 +126,6 @@ module _ (s t : List ℕ) (e : run_number s t ≡ 0) where
     where
       f : Folds 0 0 (opening (rule_of s) (vessels_of s)).head t (transfers_of s) run
       f = folds (transfers_of s) 0 0 (opening (rule_of s) (vessels_of s)).head t
-
--- refused by its sheet or by 1: a head of zeros
-pub refused_run : (s t : List ℕ) (n : ℕ) → run_number s t ≡ suc n → running s t ≡ ended (suc n) 0 0 (empty_head 0 0) t
-unfolding running
-refused_run s t n e = rw e
 
 -- transfers leave the scale as it was, and a fresh book has nothing on it
 posts_scale : (xs : List Transfer) (h : Head) (t : List ℕ) → (calls_on h t (map post xs)).head.scale ≡ h.scale

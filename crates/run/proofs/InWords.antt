@@ -6,16 +6,20 @@ use Rattle.std.proofs.Common.{ℕ, zero, suc, ◌*◌, ◌≤◌, ◌<◌, arith
 use Rattle.refusal.proofs.Numbers.{not_zero}
 use Rattle.book.specs.declared.Head.{Head}
 use Rattle.book.specs.declared.Transfer.{Transfer}
-use Rattle.book.specs.Head.{opening}
+use Rattle.book.specs.Head.{empty_head, opening}
 use Rattle.fields.specs.Movements.{entry_size}
 use Rattle.fields.specs.Layout.{entries_start}
 use Rattle.fields.proofs.GroupLaws.{length_groups, group_at}
 use Rattle.sheet.specs.Sheet.{rule_of, vessels_of, movements_of, read_number}
 use Rattle.sheet.specs.Answers.{movement_at, movement_asked}
 use Rattle.sheet.proofs.AnswerLaws.{asked_inside}
-use Rattle.run.specs.Run.{Running, transfer_in, transfers_of, run_from, run_number, running}
+use Rattle.run.specs.Run.{Running, transfer_in, transfers_of, run_from, run_number, ended, running}
 use Rattle.run.proofs.RunLaws.{no_place, can_begin}
-use Rattle.runs.proofs.RunTheorem.{refused_run}
+
+-- refused by its sheet or by 1: a head of zeros
+pub refused_run : (s t : List ℕ) (n : ℕ) → run_number s t ≡ suc n → running s t ≡ ended (suc n) 0 0 (empty_head 0 0) t
+unfolding running
+refused_run s t n e = rw e
 
 -- A run that did not begin, with this number.
 abbrev pub none_made : ℕ → List ℕ → Running
