@@ -81,8 +81,7 @@ module _ (h : Head) (t : List ℕ) where
   -- A refusal returns its number with all other answer numbers 0 and the head as given; no lent memory changes, the room of a report neither.
   no_answers : (c : Call) (n : ℕ) → ((meaning c).refused n (length t) (book_of h t)).answer ≡ no_answer
   no_answers (enter p) n = refl
-  no_answers (set_rule s) n = refl
-  no_answers (ask q room) n = refl
+  no_answers c n = refl
 
   pub refused_in_words : (c : Call) → ((call_on h t c).number ≡ 0 → ⊥)
       → ((call_on h t c).answer ≡ no_answer) × ((call_on h t c).head ≡ h) × ((call_on h t c).table ≡ t)

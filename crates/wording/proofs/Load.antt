@@ -82,8 +82,7 @@ module _ (h : Head) (t : List ℕ) where
             let m = motion_on (terms v) (book_of h t) in
             let o = outside v u e in
             handed_others m.moves _ _ (takes_fair (book_of h t) m) the_scale (λ s. o.0 (sym s)) (λ s. o.1 (sym s))
-        accepted (set_rule s) u e = refl
-        accepted (ask q room) u e = refl
+        accepted c u e = refl
 
         go : (n : ℕ) → number_of h t c ≡ n → load (call_on h t c).head (call_on h t c).table ≡ load h t
         go zero e = ap (λ (b : Book). held_by the_scale b.pieces) (left_book c e) ∙ accepted c untipped e
@@ -96,8 +95,7 @@ module _ (h : Head) (t : List ℕ) where
         let after = held_after (book_of h t) m the_scale in
         let is = accepted_book h t (enter v) in
         grind (arith, nat_tests, outside v u, after, is)
-    scale_stays (set_rule s) u = grind (arith, accepted_book h t (set_rule s))
-    scale_stays (ask q room) u = grind (arith, accepted_book h t (ask q room))
+    scale_stays c u = grind (arith, accepted_book h t c)
 
 -- WAITING: while no tip is made, what is on the scale stays as it is, in its order.
 pub load_waits : (cs : List Call) (h : Head) (t : List ℕ) → h.scale ≢ 0 → tips cs ≡ 0 → load (calls_on h t cs).head (calls_on h t cs).table ≡ load h t
