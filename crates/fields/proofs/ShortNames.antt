@@ -1,5 +1,6 @@
--- A NAME WITHOUT ITS ZEROS: of every well-formed name it is all of its letters, at least one and each a byte of 21 to 7E hexadecimal, and what is left
--- away is zeros and nothing else (`without_zeros`). A name is cut where its letters end, and a well-formed one has only zeros from there on.
+-- A NAME WITHOUT ITS ZEROS: of every well-formed name it is all of its letters, at least one and each a byte of 21 to
+-- 7E hexadecimal, and what is left away is zeros and nothing else (`without_zeros`). A name is cut where its letters
+-- end, and a well-formed one has only zeros from there on.
 -- Assumes nothing.
 use Rattle.std.proofs.Common.{ℕ, zero, suc, ◌-◌, ◌≤◌, ◌<◌, arith, ◌≡◌, refl, sym, ap, ◌∙◌, true, false, List, [], ◌∷◌, ◌++◌, length, get_or, drop, replicate, take-append-drop, length-take, length-drop}
 use Rattle.std.proofs.lemmas.Bool.{or_parts}
@@ -59,8 +60,10 @@ module _ (name : List ℕ) (well : well_formed name ≡ true) where
   }
 
 -- of names of which none is off, each is well-formed
-pub each_well_formed : (names : List (List ℕ)) → names_off names ≡ false → (i : ℕ) → i < length names → well_formed (get_or names i []) ≡ true
+pub each_well_formed : (names : List (List ℕ)) → names_off names ≡ false → (i : ℕ) → i < length names
+    → well_formed (get_or names i []) ≡ true
 unfolding exists
 each_well_formed [] e i h = absurd (omega arith)
 each_well_formed (name ∷ names) e zero h = grind (arith, or_parts, e)
-each_well_formed (name ∷ names) e (suc i) h = each_well_formed names (or_parts (name_off name names) (names_off names) e).1 i (omega arith)
+each_well_formed (name ∷ names) e (suc i) h =
+    each_well_formed names (or_parts (name_off name names) (names_off names) e).1 i (omega arith)

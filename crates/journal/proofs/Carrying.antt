@@ -135,8 +135,9 @@ module _ (rule size : ℕ) (l a : List ℕ) (gs : List (List ℕ)) (n : ℕ) (ea
         let f : h ≡ (opening rule size).head = ap (λ (x : Reply). x.head) o in
         let q = rw counted at (all_made n l (rw (the_calls, f) at p)) in
         let j = journal_is (count_calls l a) l (opening rule size).head t r in
+        let answers = q.2 ∙ ap (λ (ns : List ℕ). ns ++ drop (count_calls l a) a) j.2 in
         record {
           refused = λ u. absurd (u k);
           done = λ u. (ap (λ (x : Head). record { number = 0; head = x }) q.0, q.1, q.2, q.3);
-          demand = λ u. (q.0 ∙ j.0, q.1 ∙ j.1, q.2 ∙ ap (λ (ns : List ℕ). ns ++ drop (count_calls l a) a) j.2, demand_3 rule size (sym (ap (λ (x : Reply). x.number) o)) t _);
+          demand = λ u. (q.0 ∙ j.0, q.1 ∙ j.1, answers, demand_3 rule size (sym (ap (λ (x : Reply). x.number) o)) t _);
         }

@@ -140,5 +140,5 @@ pub record CarriesOut (rule size : ℕ) (calls t answers room : List ℕ) (r : R
   pub demand : carry_number rule size calls answers ≡ 0
       → let cs = calls_in (count_calls calls answers) calls (opening rule size).head t room in
       let j = calls_on (opening rule size).head t cs in
-      (r.head ≡ j.head) × (t' ≡ j.table) × (answers' ≡ map (λ e. e.number) j.log ++ drop (count_calls calls answers) answers)
-      × Demand3 rule size t cs j
+      (r.head ≡ j.head) × (t' ≡ j.table)
+      × (answers' ≡ map (λ e. e.number) j.log ++ drop (count_calls calls answers) answers) × Demand3 rule size t cs j

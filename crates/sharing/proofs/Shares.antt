@@ -1,7 +1,9 @@
--- THE FACT ABOUT RUNNING SUMS, over any weights and any amount: the shares sum to the amount (`shares_sum`), each differs from the exact
--- amount × weight / total by less than 1 (`shares_near`), and those of the first weights are together their exact part, rounded down (`shares_down`).
--- The idea: what falls to the first weights only grows, so that the shares telescope; and a share is the difference of two numbers that are
--- rounded down, each by less than 1. Where no more is shared out than there is, nothing gives more than it has.
+-- THE FACT ABOUT RUNNING SUMS, over any weights and any amount: the shares sum to the amount (`shares_sum`), each
+-- differs from the exact amount × weight / total by less than 1 (`shares_near`), and those of the first weights are
+-- together their exact part, rounded down (`shares_down`).
+-- The idea: what falls to the first weights only grows, so that the shares telescope; and a share is the difference of
+-- two numbers that are rounded down, each by less than 1. Where no more is shared out than there is, nothing gives more
+-- than it has.
 -- Assumes nothing.
 use Rattle.std.proofs.Common.{arith, ◌≡◌, refl, sym, ap, ◌∙◌, List, [], ◌∷◌, ℕ, zero, suc, ◌+◌, ◌*◌, ◌≤◌, ◌<◌, add-zero, zero-add, get_or, take}
 use Rattle.std.proofs.Math.Seq.{take-nil}
@@ -91,7 +93,10 @@ unfolding shares
 first_shares amount total c some [] i = simp (take-nil, add-zero)
 first_shares amount total c some (w ∷ ws) zero = simp add-zero
 first_shares amount total c some (w ∷ ws) (suc i) =
-    let all : up_to amount total (c + w + sum_of (take i ws)) ≡ up_to amount total (c + (w + sum_of (take i ws))) = ap (up_to amount total) (omega arith) in
+    let first : ℕ = sum_of (take i ws) in
+    let all : up_to amount total (c + w + first) ≡ up_to amount total (c + (w + first)) =
+    ap (up_to amount total) (omega arith)
+    in
     omega (arith, share_adds amount total some c w, first_shares amount total (c + w) some ws i, all)
 
 pub shares_down : (amount : ℕ) (ws : List ℕ) → 0 < sum_of ws → (i : ℕ)

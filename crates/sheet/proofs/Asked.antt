@@ -1,7 +1,9 @@
--- WHAT A SHEET ANSWERS. `sheet_refused`: of a sheet that is refused, reading and asking for any movement and any name give the sheet's own number, and all
--- else is 0, or the empty part at the sheet's start. Of one that reads well `name_told`: the part that is a vessel's name lies where the sheet has the name, and
--- is all of its letters; and `past_the_end`, `no_such_name`: what it has not is refused by 20 and by 5, with zeros and with the empty part at its start.
--- A name is spoken of as the part that `NamePart` says, so that where it lies is said of whatever meets that. Each asks for the sheet's own number first.
+-- WHAT A SHEET ANSWERS. `sheet_refused`: of a sheet that is refused, reading and asking for any movement and any name
+-- give the sheet's own number, and all else is 0, or the empty part at the sheet's start.
+-- Of one that reads well `name_told`: the part that is a vessel's name lies where the sheet has the name, and is all of
+-- its letters; and `past_the_end`, `no_such_name`: what it has not is refused by 20 and by 5, with zeros and with the
+-- empty part at the sheet's start. A name is spoken of as a part that meets `NamePart`, so that where it lies is said
+-- of whatever meets that.
 -- Assumes nothing.
 use Rattle.std.proofs.Common.{ℕ, ◌+◌, ◌*◌, ◌<◌, ◌≤◌, arith, ◌≡◌, true, le-leb, List, [], length, take, drop}
 use Rattle.fields.proofs.ShortNames.{Lettered, without_zeros, each_well_formed}
@@ -20,10 +22,11 @@ pub record NoName (s : List ℕ) (vessel number : ℕ) : Type 0 where
       → (part ≡ []) × (part_at.0 ≡ sheet_at.0) × (part_at.1 ≡ sheet_at.1)
 
 -- A sheet that is refused with this number.
-pub record RefusedWith (s : List ℕ) (number : ℕ) : Type 0 where
-  pub read : reading s ≡ record { number = number; rule = 0; vessels = 0; movements = 0 }
-  pub movement : (index : ℕ) → movement_asked s index ≡ record { number = number; source = 0; destination = 0; minute = 0; weight = 0; age = 0 }
-  pub name : (vessel : ℕ) → NoName s vessel number
+pub record RefusedWith (s : List ℕ) (n : ℕ) : Type 0 where
+  pub read : reading s ≡ record { number = n; rule = 0; vessels = 0; movements = 0 }
+  pub movement : (index : ℕ)
+      → movement_asked s index ≡ record { number = n; source = 0; destination = 0; minute = 0; weight = 0; age = 0 }
+  pub name : (vessel : ℕ) → NoName s vessel n
 
 pub sheet_refused : (s : List ℕ) → (read_number s ≡ 0 → ⊥) → RefusedWith s (read_number s)
 unfolding asked_number
@@ -52,11 +55,14 @@ module _ (s : List ℕ) (z : read_number s ≡ 0) where
 
   well_formed_at : (vessel : ℕ) → vessel < vessels_of s → well_formed (name_bytes s vessel) ≡ true
   well_formed_at vessel h =
-      let count : length (names_read s) ≡ vessels_of s = length_groups name_size (take name_size) (vessels_of s) (drop header_size s) in
+      let count : length (names_read s) ≡ vessels_of s =
+      length_groups name_size (take name_size) (vessels_of s) (drop header_size s)
+      in
       rw (name_of s vessel h) (each_well_formed (names_read s) (good_names s z) vessel (rw count h))
 
   pub name_told : (vessel : ℕ) → vessel < vessels_of s → (name_number s vessel ≡ 0)
-      × ((sheet_at : ℕ × ℕ) (part : List ℕ) (part_at : ℕ × ℕ) → NamePart s vessel sheet_at part part_at → NameThere s vessel sheet_at part part_at)
+      × ((sheet_at : ℕ × ℕ) (part : List ℕ) (part_at : ℕ × ℕ) → NamePart s vessel sheet_at part part_at
+      → NameThere s vessel sheet_at part part_at)
   name_told vessel h =
       let number : name_number s vessel ≡ 0 = asked_inside s z 5 (vessels_of s) vessel h in (
         number,

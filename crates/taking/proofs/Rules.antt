@@ -1,6 +1,7 @@
--- EACH RULE PICKS ITS PIECE. What is picked is a piece of s that stands there (`picked_there`), and none is picked only where s has none (`none_there`); which
--- of them it is, is said rule by rule (`rule_0` to `rule_3`). The four are instances of one law: the picked piece wins over each piece of s received later, and
--- no piece of s received earlier wins over it.
+-- EACH RULE PICKS ITS PIECE. What is picked is a piece of s that stands there (`picked_there`), and none is picked only
+-- where s has none (`none_there`); which of them it is, is said rule by rule (`rule_0` to `rule_3`). The four are
+-- instances of one law: the picked piece wins over each piece of s received later, and no piece of s received earlier
+-- wins over it.
 -- Assumes nothing.
 use Rattle.std.proofs.Common.{◌≡◌, refl, sym, ◌≢◌, Bool, true, false, cond, List, [], ◌∷◌, ◌++◌, ℕ, ◌≤◌, ◌<◌, arith, eqb, leb-true, leb-false, ltb-true, ltb-false, true≢false}
 use Rattle.std.proofs.lemmas.Grind.{common_steps}
