@@ -9,8 +9,8 @@ use Rattle.taking.specs.Taken.{Taken}
 use Rattle.taking.specs.Taking.{handed}
 use Rattle.taking.specs.declared.Applied.{Applied}
 use Rattle.taking.specs.Applied.{full, accepted, applied}
-use Rattle.moving.specs.Moves.{table_left}
-use Rattle.moving.specs.Moves as Table
+use Rattle.taking.specs.Applied.{table_left}
+use Rattle.taking.specs.Applied as Table
 use Rattle.lanes.specs.Lanes.{Contents, Movable, taken_of, Moves}
 use Rattle.lanes.proofs.Laid.{lay_twice, length_lay}
 use Rattle.book.specs.declared.Head.{Head}
@@ -20,8 +20,8 @@ use Rattle.book.specs.Motion.{takes}
 use Rattle.book.proofs.Known.{Known}
 use Rattle.book.proofs.RuleLaws.{given_at}
 use Rattle.book.proofs.Sound.{after_length}
-use Rattle.posting.specs.Carrying.{Audited, Carriable, head_after}
-use Rattle.posting.proofs.Next.{work_known, vessels_fit}
+use Rattle.motions.specs.Carrying.{Audited, Carriable, head_after}
+use Rattle.motions.proofs.Next.{work_known, vessels_fit}
 use Rattle.lane_book.specs.InLanes.{InLanes, BetweenVessels}
 
 module _ (h : Head) (c : Contents) (t : List ℕ) (w : Audited h (lay c.pieces t)) (m : Motion) (f : Carriable h m) (l : InLanes h c t) (s : BetweenVessels h m) where

@@ -7,8 +7,8 @@ use Rattle.taking.specs.declared.Applied.{Applied}
 use Rattle.book.specs.declared.Transfer.{Transfer}
 use Rattle.book.specs.Head.{empty_head}
 use Rattle.book.specs.Calls.{post}
-use Rattle.posting.specs.Carrying.{Audited}
-use Rattle.posting.specs.Posting.{said, Posts}
+use Rattle.motions.specs.Carrying.{Audited}
+use Rattle.motions.specs.Posting.{said, Posts}
 use Rattle.lane_book.specs.declared.LaneBook.{LaneBook}
 use Rattle.lane_book.specs.InLanes.{InLanes}
 

@@ -5,7 +5,7 @@ ghost use Rattle.lane_book.specs.InLanes.{InLanes, BetweenVessels};
 use book::{Head, Motion};
 use lanes::Lanes;
 use taking::Applied;
-use posting::keeping::Keeping;
+use motions::keeping::Keeping;
 
 // The pieces of a book in lanes.
 #[derive(Drop)]

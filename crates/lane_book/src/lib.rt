@@ -41,7 +41,7 @@ impl LaneBook {
         requires { Stands self.old table.old }
         ensures { Enters x self.old self.new table.old table.new result }
     {
-        posting::post_known(&mut self.head, table, &mut self.kept, x)
+        motions::post_known(&mut self.head, table, &mut self.kept, x)
     }
 
     // The pieces are written into the table; the answer is the head.

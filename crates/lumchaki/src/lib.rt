@@ -7,7 +7,7 @@ ghost use Rattle.book.specs.Head.{opening};
 ghost use Rattle.book.specs.declared.Report.TheVariants.{Held, Spread, Whole};
 ghost use Rattle.book.specs.Transfer.{most_age, transfer_of};
 ghost use Rattle.book.specs.Calls.{post};
-ghost use Rattle.posting.specs.Posting.{Posts};
+ghost use Rattle.motions.specs.Posting.{Posts};
 ghost use Rattle.reports.specs.Asking.{Asks};
 ghost use Rattle.sheet.specs.Answers.{reading, movement_asked, name_number, name_asked};
 ghost use Rattle.writing.specs.Writing.{write_number, written};

@@ -1,7 +1,7 @@
 // Lift and tip for C and Rust.
 ghost use Rattle.book.specs.Scale.{lift_of, tip_of};
 ghost use Rattle.book.specs.Calls.{lift};
-ghost use Rattle.posting.specs.Posting.{Posts, Tips};
+ghost use Rattle.motions.specs.Posting.{Posts, Tips};
 
 use book::{Head, Lift, Reply, Tip, Transferred};
 

@@ -10,7 +10,7 @@ use Rattle.table.proofs.Table.{length_pieces, pieces_over, rest_over, same_behin
 use Rattle.picking.specs.Plan.{place_of, vacate_at, vacate_all, reduced}
 use Rattle.taking.specs.declared.Applied.{Applied}
 use Rattle.moving.specs.declared.apply.Withdrawal.{Withdrawal}
-use Rattle.moving.specs.Moves.{lifted_places}
+use Rattle.moving.specs.Ready.{lifted_places}
 use Rattle.moving.specs.Parts.{Room, pieces, gone, next, Lifts, Follows, plan_handed, Gathers, plan_answer, Applicable, Applies}
 
 length_vacate_all : (ks : List ℕ) (ps : List Piece) → length (vacate_all ks ps) ≡ length ps

@@ -7,7 +7,7 @@ use Rattle.table.proofs.Table.{formed, put_pieces, put_behind, put_more}
 use Rattle.picking.specs.Plan.{place_of, in_order, vacate_at, vacate_all, picked}
 use Rattle.picking.proofs.Keys.{length_in_order}
 use Rattle.moving.specs.declared.apply.Withdrawal.{Withdrawal}
-use Rattle.moving.specs.Moves.{lifted_places}
+use Rattle.moving.specs.Ready.{lifted_places}
 use Rattle.moving.specs.Parts.{Room, pieces, gone, place, nth, sent, LiftsOne, Lifts}
 
 pub record Lifting (w : Withdrawal) (c : ℕ) (t₀ t l : List ℕ) : Type 0 where

@@ -13,7 +13,8 @@ use Rattle.taking.specs.declared.Move.{Move}
 use Rattle.taking.specs.Taken.{Taken}
 use Rattle.taking.specs.Taking.{handed, singly}
 use Rattle.picking.specs.Plan.{at_key, in_order, count_of, plan_from, splits, lacking, taken_by, planned}
-use Rattle.moving.specs.Moves.{table_left, Ready, Moves}
+use Rattle.taking.specs.Applied.{table_left, Moves}
+use Rattle.moving.specs.Ready.{Ready}
 use Rattle.picking.specs.Ordering.{Ordered}
 use Rattle.moving.specs.Parts.{Room, Applicable, Applies}
 use Rattle.picking.proofs.Keys.{length_in_order}

@@ -9,7 +9,7 @@ use Rattle.table.specs.Table.{pieces_of, piece_in, put_in}
 use Rattle.table.proofs.Table.{length_pieces, put_pieces, put_behind, put_more}
 use Rattle.taking.specs.Taken.{Taken}
 use Rattle.taking.specs.Stirring.{gives, giving}
-use Rattle.moving.specs.Moves.{lifted_places}
+use Rattle.moving.specs.Ready.{lifted_places}
 use Rattle.moving.specs.Stirring.{Partible, Parts}
 
 -- what the pieces from place i on give

@@ -11,7 +11,7 @@ use Rattle.picking.specs.Plan.{in_order, count_of, part, lacking}
 use Rattle.picking.proofs.Keys.{length_in_order}
 use Rattle.picking.proofs.Planned.{reduced_zero}
 use Rattle.moving.specs.declared.apply.Withdrawal.{Withdrawal}
-use Rattle.moving.specs.Moves.{lifted_places}
+use Rattle.moving.specs.Ready.{lifted_places}
 use Rattle.moving.specs.Parts.{Room, next, Splits, Follows}
 
 nothing_more : (m : Move) (ks : List ℕ) (ps : List Piece)

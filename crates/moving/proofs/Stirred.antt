@@ -19,7 +19,8 @@ use Rattle.taking.specs.Stirring.{stirred_rule, weights_in, gifts, stirred}
 use Rattle.taking.specs.declared.Applied.{Applied}
 use Rattle.taking.specs.Applied.{full, applied}
 use Rattle.moving.specs.declared.stirring.Parted.{Parted}
-use Rattle.moving.specs.Moves.{table_left, lifted_places, Ready, Moves}
+use Rattle.taking.specs.Applied.{table_left, Moves}
+use Rattle.moving.specs.Ready.{lifted_places, Ready}
 use Rattle.moving.specs.Stirring.{Stirrable, SharesOut, Affordable, Partible, Parts}
 
 afford : (s q T : ℕ) → 0 < T → q ≤ T → (c : ℕ) (ps : List Piece) → Affordable (shares q T c (weights_in s ps)) ps

@@ -1,3 +1,3 @@
-pub mod Moves
+pub mod Ready
 pub mod Parts
 pub mod Stirring

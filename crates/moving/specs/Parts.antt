@@ -11,7 +11,7 @@ use Rattle.taking.specs.Taking.{newborn, handed}
 use Rattle.taking.specs.declared.Applied.{Applied}
 use Rattle.picking.specs.Plan.{place_of, in_order, count_of, vacate_all, picked, reduced, part, lacking, taken_by}
 use Rattle.moving.specs.declared.apply.Withdrawal.{Withdrawal}
-use Rattle.moving.specs.Moves.{lifted_places}
+use Rattle.moving.specs.Ready.{lifted_places}
 
 -- There is room: for the pieces in the table, and for all that is lifted.
 pub record Room (w : Withdrawal) (t : List ℕ) : Type 0 where

@@ -6,7 +6,8 @@ ghost use Rattle.std.specs.Prelude.{◌≡◌};
 ghost use Rattle.table.specs.Pieces.{held};
 ghost use Rattle.table.specs.Table.{pieces_of};
 ghost use Rattle.taking.specs.Taking.{taken};
-ghost use Rattle.moving.specs.Moves.{Ready, Moves};
+ghost use Rattle.taking.specs.Applied.{Moves};
+ghost use Rattle.moving.specs.Ready.{Ready};
 
 use std::marker::Model;
 use taking::{AS_RECEIVED, Applied, Move, STIRRED};

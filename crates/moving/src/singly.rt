@@ -1,7 +1,8 @@
 // One piece after the other goes: the source's pieces are put in picking order, a plan is made, and it is applied.
 ghost use Rattle.table.specs.Table.{pieces_of};
 ghost use Rattle.taking.specs.Taking.{singly};
-ghost use Rattle.moving.specs.Moves.{Ready, Moves};
+ghost use Rattle.taking.specs.Applied.{Moves};
+ghost use Rattle.moving.specs.Ready.{Ready};
 
 use super::Workspace;
 use super::apply::Withdrawal;

@@ -2,7 +2,8 @@
 ghost use Rattle.std.specs.Prelude.{◌≡◌, ◌≤◌, length};
 ghost use Rattle.table.specs.Table.{most_places, pieces_of};
 ghost use Rattle.taking.specs.Stirring.{stirred};
-ghost use Rattle.moving.specs.Moves.{Ready, Moves};
+ghost use Rattle.taking.specs.Applied.{Moves};
+ghost use Rattle.moving.specs.Ready.{Ready};
 ghost use Rattle.moving.specs.Stirring.{Stirrable, SharesOut, Partible, Parts};
 
 use super::{LIFTED, LIFTED_PLACES, Workspace};

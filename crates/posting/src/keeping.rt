@@ -1,43 +1,32 @@
-// What keeps a book's pieces: they lie in the lent table, or beside it until they are written into it.
-ghost use Rattle.std.specs.Prelude.{List, ℕ, ⊤};
-ghost use Rattle.table.specs.Table.{places_of};
-ghost use Rattle.moving.specs.Moves.{Moves};
-ghost use Rattle.book.specs.declared.Head.{Head};
-ghost use Rattle.book.specs.declared.Motion.{Motion};
-ghost use Rattle.book.specs.Head.{book_of};
-ghost use Rattle.book.specs.Motion.{takes};
-ghost use Rattle.posting.specs.Carrying.{Audited, Carriable, head_after};
+// The lent table keeps a book's pieces.
+ghost use Rattle.std.specs.Prelude.{⊤};
 
 use book::{Head, Motion};
-use ledger::{balances, rules};
+use ledger::rules;
+use motions::balances;
+use motions::keeping::Keeping;
 use moving::{Holding, Workspace};
 use taking::Applied;
 
-// A keeping of pieces, beside a table that is lent.
-pub trait Keeping {
-    // The table as it is, or as it would be, were the pieces written into it.
-    ghost written: { Self → List ℕ → List ℕ };
-
-    // It keeps the pieces of a book with this head, and the lent table has room for them.
-    ghost keeps: { Self → Head → List ℕ → Type 0 };
-
-    // The motions that it can carry, of a book with this head.
-    ghost carries: { Head → Motion → Type 0 };
-
-    // Moves the pieces of a motion and says what was done, or answers `None` where the pieces afterwards would exceed the places, and moves nothing.
-    fn carry(&mut self, head: &Head, table: &mut [u32], m: Motion) -> Option<Applied>
-        requires known { Audited head.now (written self.old table.old) }
-        requires carriable { Carriable head.now m }
-        requires kept { keeps self.old head.now table.old × carries head.now m }
-        ensures moves { Moves (places_of (written self.old table.old)) m.moves (takes (book_of head.now (written self.old table.old)) m) (written self.old table.old) (written self.new table.new) result }
-        ensures kept { keeps self.new (head_after head.now m result) table.new };
+// The pieces lie in the table; memory to work in goes along, so that many postings in turn make it once.
+#[derive(Drop)]
+pub struct TableKeeping {
+    work: Workspace,
 }
 
-// All pieces lie in the table, which needs memory to work in. It carries every motion.
-impl Keeping for Workspace {
-    ghost written = { λ work t. t };
+impl TableKeeping {
+    pub fn new() -> Self {
+        TableKeeping {
+            work: Workspace::new(),
+        }
+    }
+}
 
-    ghost keeps = { λ work h t. ⊤ };
+// It carries every motion.
+impl Keeping for TableKeeping {
+    ghost written = { λ kept t. t };
+
+    ghost keeps = { λ kept h t. ⊤ };
 
     ghost carries = { λ h m. ⊤ };
 
@@ -49,6 +38,6 @@ impl Keeping for Workspace {
             rule: rules::rule_at(head, m.moves.source),
             balance: balances::balance_at(head, m.moves.source),
         };
-        moving::move_pieces(table, n, places, from, m.moves, self)
+        moving::move_pieces(table, n, places, from, m.moves, &mut self.work)
     }
 }

@@ -1,71 +1,25 @@
-// Posting to a book: transfer, lift and tip, each by its checks, the pieces moved, and the next head.
+// Posting to a book whose pieces lie in a lent table: transfer, lift and tip.
 #![tactic(auto)]
 
-ghost use Rattle.std.specs.Prelude.{◌≡◌, ◌≤◌};
-ghost use Rattle.refusal.specs.Numbers.{first};
-ghost use Rattle.refusal.specs.Refusals.{outcome_number};
-ghost use Rattle.book.specs.Head.{most_vessels, Sized};
-ghost use Rattle.book.specs.Motion.{of_head, motion};
-ghost use Rattle.book.specs.Calls.{Posting, terms, enter, post, lift};
-ghost use Rattle.posting.specs.Carrying.{Audited, Carriable};
-ghost use Rattle.posting.specs.Posting.{said, Posts, Tips, PostsKnown};
+ghost use Rattle.std.specs.Prelude.{◌≡◌};
+ghost use Rattle.book.specs.Calls.{enter, post, lift};
+ghost use Rattle.motions.specs.Posting.{said, Posts, Tips};
 
-use book::{Head, Lift, Motion, Reply, Tip, Transfer, Transferred};
-use keeping::Keeping;
+use book::{Head, Lift, Reply, Tip, Transfer, Transferred};
+use keeping::TableKeeping;
 use ledger::audit;
-use moving::Workspace;
-use taking::Applied;
+use motions::Posting;
 use refusal::Refusal;
+use taking::Applied;
 
-pub mod keeping; // keeping.rt: what keeps a book's pieces
-mod motions; // motions.rt: the motion that each is, and the head after it
-mod scale; // scale.rt: lift and tip as postings
-mod transfers; // transfers.rt: a transfer as a posting
-
-// What can be posted to a book: its checks after 1 and 4, and the motion that it is.
-pub trait Posting: Copy {
-    ghost asked: { Self → Posting };
-
-    // The first of its checks that applies.
-    fn check(self, head: &Head) -> Result<(), Refusal>
-        requires { head.now.vessels ≤ most_vessels }
-        ensures { outcome_number result ≡ first ((terms (asked self)).checks (of_head head.now)) };
-
-    // Its motion, where no check applies.
-    fn motion(self, head: &Head) -> Motion
-        requires few_vessels { head.now.vessels ≤ most_vessels }
-        requires sized { Sized head.now }
-        requires passed { first ((terms (asked self)).checks (of_head head.now)) ≡ 0 }
-        ensures motion { result ≡ motion (terms (asked self)) (of_head head.now) }
-        ensures carriable { Carriable head.now result };
-}
-
-// A posting to a book that is known to add up, whatever keeps its pieces: checks 1 and 4 are the caller's.
-pub fn post_known<K: Keeping, P: Posting>(
-    head: &mut Head,
-    table: &mut [u32],
-    keeping: &mut K,
-    p: P,
-) -> Result<Applied, Refusal>
-    requires known { Audited head.old (K.written keeping.old table.old) }
-    requires kept { K.keeps keeping.old head.old table.old }
-    requires carried { first ((terms (P.asked p)).checks (of_head head.old)) ≡ 0 → K.carries head.old (motion (terms (P.asked p)) (of_head head.old)) }
-    ensures posts { PostsKnown (P.asked p) head.old head.new (K.written keeping.old table.old) (K.written keeping.new table.new) result }
-    ensures kept { K.keeps keeping.new head.new table.new }
-{
-    p.check(head)?;
-    let m = p.motion(head);
-    let moved = keeping.carry(head, table, m).ok_or(Refusal::TableFull)?;
-    motions::advance(head, m, moved);
-    Ok(moved)
-}
+pub mod keeping; // keeping.rt: the lent table keeps the pieces
 
 // A posting to any book whose pieces lie in the table.
 fn post_checked<P: Posting>(head: &mut Head, table: &mut [u32], p: P) -> Result<Applied, Refusal>
     ensures { Posts head.old (enter (P.asked p)) table.old table.new (said head.new result) }
 {
     audit::check_book(*head, table)?;
-    post_known(head, table, &mut Workspace::new(), p)
+    motions::post_known(head, table, &mut TableKeeping::new(), p)
 }
 
 // What is answered to a posting that left this head. A refusal has its number, the head as it was, and all other numbers 0.
@@ -114,7 +68,7 @@ pub fn lift(head: Head, table: &mut [u32], x: Lift) -> Transferred
 }
 
 // All that is on the scale tipped into a vessel at a minute.
-#[tactic(auto, using(crate::proofs::Posted::tips))]
+#[tactic(auto, using(motions::proofs::Posted::tips))]
 pub fn tip(head: Head, table: &mut [u32], y: Tip) -> Reply
     ensures { Tips head y table.old table.new result }
 {

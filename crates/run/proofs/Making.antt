@@ -11,7 +11,7 @@ use Rattle.book.specs.declared.Head.{Head}
 use Rattle.book.specs.declared.Transfer.{Transfer}
 use Rattle.book.specs.Head.{empty_head}
 use Rattle.book.specs.Calls.{post}
-use Rattle.posting.specs.Posting.{refused_with, said, Posts}
+use Rattle.motions.specs.Posting.{refused_with, said, Posts}
 use Rattle.lane_book.specs.declared.LaneBook.{LaneBook}
 use Rattle.lane_book.specs.LaneBook.{written, Stands, Opened, Enters}
 use Rattle.sheet.specs.declared.answer.Header.{Header}

@@ -12,7 +12,7 @@ use Rattle.book.specs.Calls.{post, even_of, meaning}
 use Rattle.book.specs.Memory.{Outcome, outcome, call_on}
 use Rattle.book.specs.Memory as Memory
 use Rattle.book.proofs.Memory.{refused_memory}
-use Rattle.posting.specs.Posting.{Posts}
+use Rattle.motions.specs.Posting.{Posts}
 use Rattle.run.specs.declared.Ran.{Ran}
 use Rattle.sheet.specs.Answers.{header_numbers}
 use Rattle.fields.specs.Movements.{entry_size}

@@ -1,7 +1,7 @@
 -- `post_checked` meets its contract: refused by 1 or 4, or the book is known.
 use Rattle.std.proofs.Common.{refl}
-use Rattle.posting.proofs.Next.{audited}
-use Rattle.posting.proofs.Posted.{off_posts}
+use Rattle.motions.proofs.Next.{audited}
+use Rattle.motions.proofs.Posted.{off_posts}
 use Rattle.posting.proofs.post_checked.Goals as goal
 
 pub returns-in_err-check_book : goal.returns-in_err-check_book

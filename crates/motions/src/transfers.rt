@@ -1,10 +1,29 @@
 // A transfer as a posting. Number 11 is found where the pieces are moved.
+ghost use Rattle.std.specs.Prelude.{◌≡◌, ◌≤◌};
+ghost use Rattle.book.specs.Transfer.{motion_of};
 ghost use Rattle.book.specs.Calls.{by_transfer};
 
-use super::{Posting, motions};
+use super::{Posting, balances};
 use book::{Head, Motion, Transfer};
-use ledger::balances;
 use refusal::Refusal;
+use taking::Move;
+
+// The motion that a transfer is: what is born was milled its age before its minute.
+pub fn motion_of(x: Transfer) -> Motion
+    requires { x.age ≤ x.minute }
+    ensures { result ≡ motion_of x }
+{
+    Motion {
+        moves: Move {
+            source: x.source,
+            destination: x.destination,
+            birth: x.minute - x.age as u32,
+            weight: x.weight,
+        },
+        minute: x.minute,
+        counts: 1,
+    }
+}
 
 impl Posting for Transfer {
     ghost asked = { λ x. by_transfer x };
@@ -38,6 +57,6 @@ impl Posting for Transfer {
 
     #[tactic(auto, using(std::proofs::lemmas::Bool::Decides::nat_tests), unfolding(book::specs::Transfer::transfer_checks))]
     fn motion(self, _head: &Head) -> Motion {
-        motions::motion_of(self)
+        motion_of(self)
     }
 }

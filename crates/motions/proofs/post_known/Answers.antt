@@ -1,7 +1,7 @@
 -- `post_known` meets its contract: the ways out of it are those of `Posted`.
-use Rattle.posting.proofs.Next.{vessels_fit}
-use Rattle.posting.proofs.Posted.{post_refused, post_full, post_countable, post_made}
-use Rattle.posting.proofs.post_known.Goals as goal
+use Rattle.motions.proofs.Next.{vessels_fit}
+use Rattle.motions.proofs.Posted.{post_refused, post_full, post_countable, post_made}
+use Rattle.motions.proofs.post_known.Goals as goal
 
 pub check-requires : goal.check-requires
 check-requires g c = vessels_fit _ _ c.requires.known

@@ -9,7 +9,7 @@ use Rattle.table.specs.Table.{places_of}
 use Rattle.table.proofs.Pieces.{all_map}
 use Rattle.taking.specs.declared.Applied.{Applied}
 use Rattle.taking.specs.Applied.{full, accepted, applied}
-use Rattle.moving.specs.Moves.{table_left, Moves}
+use Rattle.taking.specs.Applied.{table_left, Moves}
 use Rattle.refusal.specs.declared.Refusal.{Refusal}
 use Rattle.refusal.specs.declared.Refusal.TheVariants.{TableFull}
 use Rattle.refusal.specs.Numbers.{first, if_zero}
@@ -28,9 +28,9 @@ use Rattle.book.proofs.BalanceLaws.{Holders}
 use Rattle.book.proofs.Sound.{number, own, proper, after_length, whole, posted_own, motion_light, SizedBook, keeps}
 use Rattle.book.proofs.Memory.{number_same, no_place, refused_on, accepted_on, off_number}
 use Rattle.book.proofs.Known.{Known, standing_same}
-use Rattle.posting.specs.Carrying.{Audited, Carriable, next_head, Countable}
-use Rattle.posting.specs.Posting.{refused_with, said, Posts, Tips, PostsKnown}
-use Rattle.posting.proofs.Next.{work_known, next_head_is, countable, audited_after}
+use Rattle.motions.specs.Carrying.{Audited, Carriable, next_head, Countable}
+use Rattle.motions.specs.Posting.{refused_with, said, Posts, Tips, PostsKnown}
+use Rattle.motions.proofs.Next.{work_known, next_head_is, countable, audited_after}
 
 -- the answer is a refusal, passed on by `?`
 is_refusal : (q : Result Applied Refusal) (why : Refusal) → IsErrAnd q (λ (other : Refusal). other ≡ why) → q ≡ Err why

@@ -2,28 +2,23 @@
 -- Assumes nothing.
 use Rattle.std.proofs.Common.{◌≡◌, ◌∙◌, Some, List, ℕ, ◌+◌, ◌-◌, ◌≤◌, ◌<◌, arith, eqb}
 use Rattle.std.proofs.lemmas.Bool.Decides.{nat_tests}
-use Rattle.table.specs.Pieces.{only, held, All}
-use Rattle.table.specs.Closing.{Present}
+use Rattle.table.specs.Pieces.{only, held}
 use Rattle.table.specs.Table.{pieces_of, places_of, places_in}
-use Rattle.table.proofs.Pieces.{all_map}
-use Rattle.table.proofs.Table.{places_fit}
 use Rattle.taking.specs.Taken.{Taken}
 use Rattle.taking.specs.Taking.{handed}
 use Rattle.taking.specs.declared.Applied.{Applied}
 use Rattle.taking.specs.Applied.{accepted, applied}
-use Rattle.moving.specs.Moves.{Ready}
 use Rattle.refusal.specs.Numbers.{first}
 use Rattle.book.specs.declared.Head.{Head}
 use Rattle.book.specs.declared.Motion.{Motion}
 use Rattle.book.specs.Head.{Book, most_vessels, most_holders, Sized, Shiftable, balance_at, with_balance, holdings, shifted, head_of, book_of}
 use Rattle.book.specs.Motion.{takes, pieces_after, book_after}
 use Rattle.book.specs.Memory.{book_checks, number_of, call_on}
-use Rattle.book.proofs.HolderLaws.{holder_bound}
 use Rattle.book.proofs.BalanceLaws.{Holders, Matches, matches_balances, long_balances, shift_matches, shift_there}
 use Rattle.book.proofs.Sound.{takes_fair, held_after, SizedBook}
 use Rattle.book.proofs.Memory.{book_passed}
 use Rattle.book.proofs.Known.{Known, known_up}
-use Rattle.posting.specs.Carrying.{Audited, Carriable, next_head, Countable}
+use Rattle.motions.specs.Carrying.{Audited, Carriable, next_head, Countable}
 use Rattle.book.proofs.After.{known_after, length_after}
 use Rattle.book.specs.Calls.{Call, meaning}
 
@@ -78,13 +73,6 @@ module _ (h : Head) (t : List ℕ) (w : Audited h t) (m : Motion) where
     -- what the source holds is its balance
     pub source_holds : (w : ℕ) → w ≡ balance_at h m.moves.source → w ≡ held m.moves.source (pieces_of h.pieces t)
     source_holds w e = e ∙ k.balance m.moves.source
-
-    -- what the move asks
-    pub move_ready : (p : ℕ) → p ≡ places_of t → Ready h.pieces p m.moves t
-    unfolding places_in
-    move_ready p ep =
-        let present : All Present (pieces_of h.pieces t) = all_map (λ q g. let n = holder_bound h.vessels _ g.holder_in k.sound.vessels_fit in omega arith) k.sound.sound in
-        grind (arith, k.few, places_fit t p p ep, present)
 
     -- what the next head asks, where there was a place
     pub countable : (a : Applied) → applied (places_of t) m.moves r ≡ Some a → Countable h m a

@@ -1,10 +1,44 @@
 // Lift and tip as postings.
+ghost use Rattle.std.specs.Prelude.{◌≡◌, ◌≤◌};
+ghost use Rattle.book.specs.Head.{the_scale};
+ghost use Rattle.book.specs.Scale.{lift_motion, tip_motion};
 ghost use Rattle.book.specs.Calls.{by_lift, by_tip};
 
-use super::{Posting, motions};
-use book::{Head, Lift, Motion, Tip};
-use ledger::balances;
+use super::transfers::motion_of;
+use super::{Posting, balances};
+use book::{Head, Lift, Motion, SCALE, Tip, Transfer};
 use refusal::Refusal;
+use taking::Move;
+
+// A lift is a transfer onto the scale.
+pub fn lift_motion(x: Lift) -> Motion
+    requires { x.age ≤ x.minute }
+    ensures { result ≡ lift_motion the_scale x }
+{
+    motion_of(Transfer {
+        source: x.source,
+        destination: SCALE,
+        minute: x.minute,
+        weight: x.weight,
+        age: x.age,
+    })
+}
+
+// A tip moves all the weight on the scale, and does not count.
+pub fn tip_motion(head: &Head, y: Tip) -> Motion
+    ensures { result ≡ tip_motion the_scale head.now.scale y }
+{
+    Motion {
+        moves: Move {
+            source: SCALE,
+            destination: y.destination,
+            birth: y.minute,
+            weight: head.scale,
+        },
+        minute: y.minute,
+        counts: 0,
+    }
+}
 
 impl Posting for Lift {
     ghost asked = { λ x. by_lift x };
@@ -34,7 +68,7 @@ impl Posting for Lift {
 
     #[tactic(auto, using(std::proofs::lemmas::Bool::Decides::nat_tests), unfolding(book::specs::Scale::lift_checks, book::specs::Head::balance_at))]
     fn motion(self, _head: &Head) -> Motion {
-        motions::lift_motion(self)
+        lift_motion(self)
     }
 }
 
@@ -61,6 +95,6 @@ impl Posting for Tip {
 
     #[tactic(auto, using(std::proofs::lemmas::Bool::Decides::nat_tests), unfolding(book::specs::Scale::tip_checks, book::specs::Head::balance_at))]
     fn motion(self, head: &Head) -> Motion {
-        motions::tip_motion(head, self)
+        tip_motion(head, self)
     }
 }
