@@ -7,7 +7,7 @@ use Rattle.moving.specs.declared.Applied.{Applied}
 use Rattle.book.specs.declared.Transfer.{Transfer}
 use Rattle.book.specs.Head.{empty_head}
 use Rattle.book.specs.Calls.{post}
-use Rattle.posting.specs.Carrying.{Audited}
+use Rattle.ledger.specs.Audited.{Audited}
 use Rattle.posting.specs.Posting.{said, Posts}
 use Rattle.daybook.specs.declared.Daybook.{Daybook}
 use Rattle.daybook.specs.InLanes.{InLanes}

@@ -1,2 +1,3 @@
+pub mod Audited
 pub mod Drained
 pub mod Ruled

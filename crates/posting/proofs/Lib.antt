@@ -1,3 +1,2 @@
 pub mod Next
-pub mod After
 pub mod Posted

@@ -1,6 +1,6 @@
 -- A motion on a book known to add up: the pieces moved and the next head are together the book after it.
 -- Assumes nothing.
-use Rattle.std.proofs.Common.{◌≡◌, ◌∙◌, Some, List, ℕ, ◌+◌, ◌-◌, ◌≤◌, ◌<◌, arith, eqb}
+use Rattle.std.proofs.Common.{◌≡◌, ◌∙◌, Some, List, ℕ, ◌+◌, ◌-◌, ◌<◌, arith, eqb}
 use Rattle.std.proofs.lemmas.Bool.Decides.{nat_tests}
 use Rattle.table.specs.Pieces.{only, held, All}
 use Rattle.table.specs.Closing.{Present}
@@ -11,28 +11,17 @@ use Rattle.taking.specs.Taken.{Taken}
 use Rattle.taking.specs.Taking.{handed}
 use Rattle.moving.specs.declared.Applied.{Applied}
 use Rattle.moving.specs.Applied.{accepted, applied, Ready}
-use Rattle.refusal.specs.Numbers.{first}
 use Rattle.book.specs.declared.Head.{Head}
 use Rattle.book.specs.declared.Motion.{Motion}
-use Rattle.book.specs.Head.{Book, most_vessels, most_holders, Sized, Shiftable, balance_at, with_balance, holdings, shifted, head_of, book_of}
+use Rattle.book.specs.Head.{Book, most_holders, Shiftable, balance_at, with_balance, holdings, shifted, head_of, book_of}
 use Rattle.book.specs.Motion.{takes, pieces_after, book_after}
-use Rattle.book.specs.Memory.{book_checks}
 use Rattle.book.proofs.HolderLaws.{holder_bound}
 use Rattle.book.proofs.BalanceLaws.{Holders, Matches, matches_balances, long_balances, shift_matches, shift_there}
 use Rattle.book.proofs.Sound.{takes_fair, held_after}
-use Rattle.book.proofs.Memory.{book_passed}
-use Rattle.book.proofs.Known.{Known, known_up}
-use Rattle.posting.specs.Carrying.{Audited, Carriable, next_head, Countable}
-
--- past 1 and 4
-pub audited : (h : Head) (t : List ℕ) (n : ℕ) → (n ≡ first (book_checks h t)) × Sized h → n ≡ 0 → Audited h t
-audited h t n e z = grind (arith, book_passed h t)
-
-pub work_known : (h : Head) (t : List ℕ) → Audited h t → Known h t
-work_known h t w = known_up h t w.sized w.book_adds_up
-
-pub vessels_fit : (h : Head) (t : List ℕ) → Audited h t → h.vessels ≤ most_vessels
-vessels_fit h t w = (work_known h t w).sound.vessels_fit
+use Rattle.book.proofs.Known.{Known}
+use Rattle.ledger.specs.Audited.{Audited}
+use Rattle.ledger.proofs.Audited.{audited_known}
+use Rattle.posting.specs.Carrying.{Carriable, next_head, Countable}
 
 -- A motion.
 module _ (h : Head) (t : List ℕ) (w : Audited h t) (m : Motion) where
@@ -43,7 +32,7 @@ module _ (h : Head) (t : List ℕ) (w : Audited h t) (m : Motion) where
   r = takes b m
 
   k : Known h t
-  k = work_known h t w
+  k = audited_known h t w
 
   born_is : r.born ≡ m.moves.weight - held m.moves.source b.pieces
   born_is = (takes_fair b m).born_is

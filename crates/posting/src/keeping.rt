@@ -6,7 +6,8 @@ ghost use Rattle.book.specs.declared.Head.{Head};
 ghost use Rattle.book.specs.declared.Motion.{Motion};
 ghost use Rattle.book.specs.Head.{book_of};
 ghost use Rattle.book.specs.Motion.{takes};
-ghost use Rattle.posting.specs.Carrying.{Audited, Carriable, head_after};
+ghost use Rattle.ledger.specs.Audited.{Audited};
+ghost use Rattle.posting.specs.Carrying.{Carriable, head_after};
 
 use book::{Head, Motion};
 use ledger::{balances, rules};

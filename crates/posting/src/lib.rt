@@ -7,7 +7,8 @@ ghost use Rattle.refusal.specs.Refusals.{outcome_number};
 ghost use Rattle.book.specs.Head.{most_vessels, Sized};
 ghost use Rattle.book.specs.Motion.{of_head, motion};
 ghost use Rattle.book.specs.Calls.{Posting, terms, enter, post, lift};
-ghost use Rattle.posting.specs.Carrying.{Audited, Carriable};
+ghost use Rattle.ledger.specs.Audited.{Audited};
+ghost use Rattle.posting.specs.Carrying.{Carriable};
 ghost use Rattle.posting.specs.Posting.{said, Posts, Tips, PostsKnown};
 
 use book::{Head, Lift, Motion, Reply, Tip, Transfer, Transferred};

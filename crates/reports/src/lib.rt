@@ -13,6 +13,8 @@ use ledger::audit;
 use refusal::Refusal;
 use table::reading::Pieces;
 
+pub mod known; // known.rt: a report on a book that adds up
+
 // The checks after 1 and 4. What is asked is told by its variant, which is looked at once here and once where the room is filled.
 #[tactic(auto, unfolding(book::specs::Reports::report_checks))]
 fn check_asked(vessels: u32, asked: Report, room: usize) -> Result<(), Refusal>

@@ -1,5 +1,5 @@
 -- `post_known` meets its contract: the ways out of it are those of `Posted`.
-use Rattle.posting.proofs.Next.{vessels_fit}
+use Rattle.ledger.proofs.Audited.{vessels_fit}
 use Rattle.posting.proofs.Posted.{post_refused, post_full, post_countable, post_made}
 use Rattle.posting.proofs.post_known.Goals as goal
 

@@ -1,20 +1,32 @@
--- After a call on a book known to add up the book is known to add up again, and the table is as long as before: so that many calls in turn need checks 1 and
--- 4 once. A call that is accepted has to leave numbers of 32 bits.
+-- What is known of a book that adds up. After a call the book is known to add up again, and the table is as long as before, so that many calls in turn need
+-- checks 1 and 4 once; a call that is accepted has to leave numbers of 32 bits.
 -- Assumes nothing.
-use Rattle.std.proofs.Common.{◌≡◌, refl, ◌∙◌, List, ℕ, zero, suc, arith, length}
-use Rattle.refusal.specs.Numbers.{if_zero}
+use Rattle.std.proofs.Common.{◌≡◌, refl, ◌∙◌, List, ℕ, zero, suc, ◌≤◌, arith, length}
+use Rattle.refusal.specs.Numbers.{first, if_zero}
 use Rattle.table.specs.Table.{places_of}
 use Rattle.table.proofs.Pieces.{all_map}
 use Rattle.book.specs.declared.Head.{Head}
-use Rattle.book.specs.Head.{Book, Sized, head_of, book_of}
+use Rattle.book.specs.Head.{Book, most_vessels, Sized, head_of, book_of}
 use Rattle.book.specs.Calls.{Call, meaning}
-use Rattle.book.specs.Memory.{number_of, call_on}
+use Rattle.book.specs.Memory.{book_checks, number_of, call_on}
 use Rattle.book.proofs.BalanceLaws.{balances_match, balance_held}
 use Rattle.book.proofs.Sound.{number, SoundBook, SizedBook, keeps}
-use Rattle.book.proofs.Memory.{adds, number_same, in_step}
-use Rattle.book.proofs.Known.{Known}
-use Rattle.posting.specs.Carrying.{Audited}
-use Rattle.posting.proofs.Next.{work_known}
+use Rattle.book.proofs.Memory.{book_on, book_passed, adds, number_same, in_step}
+use Rattle.book.proofs.Known.{Known, known_up}
+use Rattle.ledger.specs.Audited.{Audited}
+
+-- as checks 1 and 4 find it
+pub audited : (h : Head) (t : List ℕ) (n : ℕ) → (n ≡ first (book_checks h t)) × Sized h → n ≡ 0 → Audited h t
+audited h t n e z = grind (arith, book_passed h t)
+
+pub passed : (h : Head) (t : List ℕ) → Audited h t → 0 ≡ first (book_checks h t)
+passed h t w = book_on h t _ w.long refl w.book_adds_up
+
+pub audited_known : (h : Head) (t : List ℕ) → Audited h t → Known h t
+audited_known h t w = known_up h t w.sized w.book_adds_up
+
+pub vessels_fit : (h : Head) (t : List ℕ) → Audited h t → h.vessels ≤ most_vessels
+vessels_fit h t w = (audited_known h t w).sound.vessels_fit
 
 -- the head of a sound book whose numbers are of 32 bits has such numbers
 sized_head : (places : ℕ) (b : Book) → SoundBook places b → SizedBook b → Sized (head_of b)
@@ -23,9 +35,10 @@ sized_head places b o z =
     let matches = balances_match b.vessels (head_of b).balances (head_of b).scale b.pieces holders refl refl in
     record { light = λ v. rw (balance_held (head_of b) b.vessels b.pieces o.vessels_fit holders matches v) (z.light v); tally = z.tally }
 
+-- after a call
 module _ (h : Head) (t : List ℕ) (w : Audited h t) (c : Call) where
   k : Known h t
-  k = work_known h t w
+  k = audited_known h t w
 
   abbrev b : Book
   b = book_of h t
