@@ -27,7 +27,8 @@ pub record Opened (rule size : ℕ) (b : Daybook) : Type 0 where
   pub stands : (t : List ℕ) → 4 ≤ length t → Stands b t
   pub bare : (t : List ℕ) → written b t ≡ t
 
--- What a transfer promises: answer and table are those of the call, and the next one can be posted.
+-- What a transfer promises: answer and table are those of the call, and the next one can be posted. The table that is lent stays as it is.
 pub record Enters (x : Transfer) (b b' : Daybook) (t t' : List ℕ) (r : Result Applied Refusal) : Type 0 where
   pub posts : Posts b.head (post x) (written b t) (written b' t') (said b'.head r)
   pub stands : Stands b' t'
+  pub lent : t' ≡ t

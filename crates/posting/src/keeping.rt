@@ -24,13 +24,20 @@ pub trait Keeping {
     // The motions that it can carry, of a book with this head.
     ghost carries: { Head → Motion → Type 0 };
 
+    // What carrying may do to the lent table.
+    ghost leaves: { List ℕ → List ℕ → Type 0 };
+
     // Moves the pieces of a motion and says what was done, or answers `None` where the pieces afterwards would exceed the places, and moves nothing.
     fn carry(&mut self, head: &Head, table: &mut [u32], m: Motion) -> Option<Applied>
         requires known { Audited head.now (written self.old table.old) }
         requires carriable { Carriable head.now m }
         requires kept { keeps self.old head.now table.old × carries head.now m }
         ensures moves { Moves (places_of (written self.old table.old)) m.moves (takes (book_of head.now (written self.old table.old)) m) (written self.old table.old) (written self.new table.new) result }
-        ensures kept { keeps self.new (head_after head.now m result) table.new };
+        ensures kept { keeps self.new (head_after head.now m result) table.new }
+        ensures leaves { leaves table.old table.new };
+
+    // It may leave it as it was.
+    ghost untouched: { (t : List ℕ) → leaves t t };
 }
 
 // All pieces lie in the table, which needs memory to work in. It carries every motion.
@@ -40,6 +47,10 @@ impl Keeping for Workspace {
     ghost keeps = { λ work h t. ⊤ };
 
     ghost carries = { λ h m. ⊤ };
+
+    ghost leaves = { λ t t'. ⊤ };
+
+    ghost untouched = { λ t. tt };
 
     #[tactic(auto, unfolding(book::specs::Motion::takes))]
     fn carry(&mut self, head: &Head, table: &mut [u32], m: Motion) -> Option<Applied> {

@@ -52,6 +52,7 @@ pub fn post_known<K: Keeping, P: Posting>(
     requires carried { first ((terms (P.asked p)).checks (of_head head.old)) ≡ 0 → K.carries head.old (motion (terms (P.asked p)) (of_head head.old)) }
     ensures posts { PostsKnown (P.asked p) head.old head.new (K.written keeping.old table.old) (K.written keeping.new table.new) result }
     ensures kept { K.keeps keeping.new head.new table.new }
+    ensures leaves { K.leaves table.old table.new }
 {
     p.check(head)?;
     let m = p.motion(head);
