@@ -8,6 +8,7 @@ pub mod HeadLaws
 pub mod Memory
 pub mod Known
 pub mod After
+pub mod Audited
 pub mod Accepted
 pub mod Along
 pub mod ReportLaws

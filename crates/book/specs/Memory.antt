@@ -2,12 +2,12 @@
 -- number of the table and of the room afterwards. "A refusal returns its number with all other answer numbers 0 and the head as
 -- given; no lent memory changes."
 -- Definitions only. Assumes nothing.
-use Rattle.std.specs.Prelude.{Bool, not, List, [], ◌∷◌, ◌++◌, ℕ, zero, suc, ltb, length}
+use Rattle.std.specs.Prelude.{◌≡◌, Bool, true, not, List, [], ◌∷◌, ◌++◌, ℕ, zero, suc, ltb, ◌≤◌, length}
 use Rattle.refusal.specs.Numbers.{Check, ◌if◌, first}
 use Rattle.book.specs.declared.Head.{Head}
 use Rattle.book.specs.declared.Transferred.{Transferred}
 use Rattle.book.specs.declared.Reply.{Reply}
-use Rattle.book.specs.Head.{head_of, book_of, adds_up}
+use Rattle.book.specs.Head.{Sized, head_of, book_of, adds_up}
 use Rattle.book.specs.Calls.{Call, Answer, Meaning, meaning}
 
 -- All that a call gives back and leaves, how often it was an even transfer, and whether it made a pick under rule 4.
@@ -40,6 +40,12 @@ outcome h t m (suc n) =
 -- a call on a head and a table
 unfoldable pub call_on : Head → List ℕ → Call → Outcome
 call_on h t c = outcome h t (meaning c) (number_of h t c)
+
+-- A head and a table that are known to add up: they are past checks 1 and 4, and the head's numbers are ones of 32 bits.
+pub record Audited (h : Head) (t : List ℕ) : Type 0 where
+  pub long : 4 ≤ length t
+  pub book_adds_up : adds_up h t ≡ true
+  pub sized : Sized h
 
 -- the outcome as the code answers it
 abbrev pub transferred : Outcome → Transferred

@@ -1,4 +1,2 @@
-pub mod Reading
-pub mod Grouped
+pub mod Making
 pub mod Carrying
-pub mod WhichCall

@@ -1,84 +1,44 @@
--- A list of calls in numbers, carried out on a fresh book: demand 3 of running code. Six numbers are a call: its kind and its arguments.
--- Kind 0 is a transfer (source, destination, minute, weight, age), 1 the held report (vessel), 2 spread (origin, from, to), 4 a lift (source, minute,
--- weight, age), 5 a tip (destination, minute), 6 the setting of a rule (vessel, rule), 3 and any other the whole report. Numbers behind the arguments are
--- not looked at.
--- An age is a number of 16 bits: a list with a transfer or a lift of a larger one is refused whole, with 18.
+-- A list of calls carried out on a fresh book: demand 3 of running code.
 -- Definitions only. Assumes nothing.
-use Rattle.std.specs.Prelude.{◌≡◌, Bool, false, cond, ◌||◌, List, [], ◌∷◌, ◌++◌, ℕ, zero, suc, ◌/◌, min, eqb, ltb, length, get_or, drop, map}
-use Rattle.refusal.specs.Numbers.{◌if◌, first}
+use Rattle.std.specs.Prelude.{◌≡◌, List, [], ◌∷◌, ◌++◌, ℕ, min, length, take, drop, map, Result}
+use Rattle.refusal.specs.declared.Refusal.{Refusal}
+use Rattle.refusal.specs.Numbers.{first}
+use Rattle.refusal.specs.Refusals.{outcome_number}
 use Rattle.book.specs.declared.Head.{Head}
 use Rattle.book.specs.declared.Reply.{Reply}
 use Rattle.book.specs.Head.{not_opened, open_checks, opening}
-use Rattle.book.specs.declared.Report.{Report}
-use Rattle.book.specs.declared.Report.TheVariants.{Held, Spread, Whole}
-use Rattle.book.specs.declared.Transfer.{Transfer}
-use Rattle.book.specs.declared.Lift.{Lift}
-use Rattle.book.specs.declared.Tip.{Tip}
-use Rattle.book.specs.declared.Setting.{Setting}
-use Rattle.book.specs.Transfer.{most_age, transfer_of}
-use Rattle.book.specs.Scale.{lift_of, tip_of}
-use Rattle.book.specs.Setting.{setting_of}
-use Rattle.book.specs.Calls.{Call, post, lift, tip, set_rule, ask}
-use Rattle.book.specs.Memory.{Outcome, call_on, replied}
+use Rattle.book.specs.Calls.{enter, post, lift, tip, set_rule, ask}
+use Rattle.book.specs.Calls as Calls
+use Rattle.book.specs.Memory.{Outcome, call_on}
 use Rattle.book.specs.Lists.{calls_on}
 use Rattle.conservation.specs.Conservation.{Demand3}
+use Rattle.book.specs.Memory.{Audited}
+use Rattle.journal.specs.declared.Call.{Call}
+use Rattle.journal.specs.declared.Call.TheVariants.{Transfer, Lift, Tip, Setting, Report}
 
-abbrev pub call_size : ℕ
-call_size = 6
-
--- the report of a kind, with its arguments
-abbrev pub report_of : ℕ → ℕ → ℕ → ℕ → Report
-report_of kind a b c = cond (eqb kind 1) (Held a) (cond (eqb kind 2) (Spread a b c) Whole)
-
--- the transfer in the first six numbers, where they are one, the lift, the tip, the setting and the report
-abbrev pub transfer_in : List ℕ → Transfer
-transfer_in l = transfer_of (get_or l 1 0) (get_or l 2 0) (get_or l 3 0) (get_or l 4 0) (get_or l 5 0)
-
-abbrev pub lift_in : List ℕ → Lift
-lift_in l = lift_of (get_or l 1 0) (get_or l 2 0) (get_or l 3 0) (get_or l 4 0)
-
-abbrev pub tip_in : List ℕ → Tip
-tip_in l = tip_of (get_or l 1 0) (get_or l 2 0)
-
-abbrev pub setting_in : List ℕ → Setting
-setting_in l = setting_of (get_or l 1 0) (get_or l 2 0)
-
-abbrev pub report_in : List ℕ → Report
-report_in l = report_of (get_or l 0 0) (get_or l 1 0) (get_or l 2 0) (get_or l 3 0)
-
--- the call in the first six numbers, with the room that it is lent
-unfoldable pub call_in : List ℕ → List ℕ → Call
-call_in l room =
-    let kind = get_or l 0 0 in
-    cond (eqb kind 0) (post (transfer_in l))
-    (cond (eqb kind 4) (lift (lift_in l)) (cond (eqb kind 5) (tip (tip_in l)) (cond (eqb kind 6) (set_rule (setting_in l)) (ask (report_in l) room))))
-
--- the age in the first six numbers, 0 where the call has none; whether it is above the largest, and whether one of the first n calls has such an age
-abbrev pub age_in : List ℕ → ℕ
-age_in l = let kind = get_or l 0 0 in cond (eqb kind 0) (get_or l 5 0) (cond (eqb kind 4) (get_or l 4 0) 0)
-
-unfoldable pub age_off : List ℕ → Bool
-age_off l = ltb most_age (age_in l)
-
-unfoldable pub ages_off : ℕ → List ℕ → Bool
-ages_off zero l = false
-ages_off (suc n) l = age_off l || ages_off n (drop call_size l)
+-- the call that it is, with the room that it is lent
+abbrev pub called : Call → List ℕ → Calls.Call
+called (Transfer x) room = post x
+called (Lift x) room = lift x
+called (Tip y) room = tip y
+called (Setting s) room = set_rule s
+called (Report q) room = ask q room
 
 -- the room after a call: only a report has some to write to
-abbrev pub room_left : Call → Outcome → List ℕ → List ℕ
-room_left (post x) o room = room
-room_left (lift x) o room = room
-room_left (tip y) o room = room
+abbrev pub room_left : Calls.Call → Outcome → List ℕ → List ℕ
+room_left (enter p) o room = room
 room_left (set_rule s) o room = room
 room_left (ask q r) o room = o.room
 
--- What any call promises: its number and the next head, and table and room after it.
-pub record Makes (h : Head) (c : Call) (t r t' r' : List ℕ) (z : Reply) : Type 0 where
-  pub answer : z ≡ replied (call_on h t c)
+-- What any call promises on a book that adds up: its number and the next head, table and room after it, and that the book adds up again.
+pub record Makes (c : Calls.Call) (h h' : Head) (t t' r r' : List ℕ) (z : Result (Unit {0}) Refusal) : Type 0 where
+  pub number : outcome_number z ≡ (call_on h t c).number
+  pub head : h' ≡ (call_on h t c).head
   pub table : t' ≡ (call_on h t c).table
   pub room : r' ≡ room_left c (call_on h t c) r
+  pub audited : Audited h' t'
 
--- What is left after n calls, and the number of each.
+-- What is left after calls, and the number of each.
 pub record Carried : Type 0 where
   pub numbers : List ℕ
   pub head : Head
@@ -88,57 +48,44 @@ pub record Carried : Type 0 where
 abbrev pub numbered : ℕ → Carried → Carried
 numbered n r = record { numbers = n ∷ r.numbers; head = r.head; table = r.table; room = r.room }
 
-unfoldable pub carried : ℕ → List ℕ → Head → List ℕ → List ℕ → Carried
-carried zero l h t room = record { numbers = []; head = h; table = t; room = room }
-carried (suc n) l h t room =
-    let c = call_in l room in
+unfoldable pub carried : List Call → Head → List ℕ → List ℕ → Carried
+carried [] h t room = record { numbers = []; head = h; table = t; room = room }
+carried (x ∷ xs) h t room =
+    let c = called x room in
     let o = call_on h t c in
-    numbered o.number (carried n (drop call_size l) o.head o.table (room_left c o room))
+    numbered o.number (carried xs o.head o.table (room_left c o room))
 
--- the calls themselves, each with the room as it is lent then
-unfoldable pub calls_in : ℕ → List ℕ → Head → List ℕ → List ℕ → List Call
-calls_in zero l h t room = []
-calls_in (suc n) l h t room =
-    let c = call_in l room in
+-- the calls, each with the room as it is lent then
+unfoldable pub lent : List Call → Head → List ℕ → List ℕ → List Calls.Call
+lent [] h t room = []
+lent (x ∷ xs) h t room =
+    let c = called x room in
     let o = call_on h t c in
-    c ∷ calls_in n (drop call_size l) o.head o.table (room_left c o room)
-
--- What is left after all calls of a list of groups of six numbers, as the code goes over them. proofs/Grouped.antt shows that of the first n
--- groups of a list of numbers this is `carried`.
-unfoldable pub all_carried : List (List ℕ) → Head → List ℕ → List ℕ → Carried
-all_carried [] h t room = record { numbers = []; head = h; table = t; room = room }
-all_carried (six ∷ calls) h t room =
-    let c = call_in six room in
-    let o = call_on h t c in
-    numbered o.number (all_carried calls o.head o.table (room_left c o room))
+    c ∷ lent xs o.head o.table (room_left c o room)
 
 -- What all of them in turn promise: the head, and table, answers and room after them.
-pub record MakesAll (calls : List (List ℕ)) (h : Head) (t a r t' a' r' : List ℕ) (h' : Head) : Type 0 where
-  pub head : h' ≡ (all_carried calls h t r).head
-  pub table : t' ≡ (all_carried calls h t r).table
-  pub answers : a' ≡ (all_carried calls h t r).numbers ++ drop (length calls) a
-  pub room : r' ≡ (all_carried calls h t r).room
+pub record MakesAll (calls : List Call) (h : Head) (t a r t' a' r' : List ℕ) (h' : Head) : Type 0 where
+  pub head : h' ≡ (carried calls h t r).head
+  pub table : t' ≡ (carried calls h t r).table
+  pub answers : a' ≡ (carried calls h t r).numbers ++ drop (length calls) a
+  pub room : r' ≡ (carried calls h t r).room
 
--- how many calls there are numbers and answers for
-abbrev pub count_calls : List ℕ → List ℕ → ℕ
-count_calls calls answers = min (length calls / call_size) (length answers)
+-- so many are made as there is room for answers
+abbrev pub made : List Call → List ℕ → List Call
+made calls answers = take (min (length calls) (length answers)) calls
 
--- the checks of carrying out a list: those of opening, then 18
-unfoldable pub carry_number : ℕ → ℕ → List ℕ → List ℕ → ℕ
-carry_number rule size calls answers = first (open_checks rule size ++ (18 if ages_off (count_calls calls answers) calls) ∷ [])
-
--- What carrying out a list of calls promises: with the rule and V that were given, the numbers of the calls, the four lent slices before, and the
--- answer and the slices after.
-pub record CarriesOut (rule size : ℕ) (calls t answers room : List ℕ) (r : Reply) (t' answers' room' : List ℕ) : Type 0 where
-  -- a refused list leaves all as it was
-  pub refused : (carry_number rule size calls answers ≡ 0 → ⊥) → (r ≡ not_opened (carry_number rule size calls answers)) × (t' ≡ t) × (answers' ≡ answers) × (room' ≡ room)
+-- What carrying out a list of calls promises: with the rule and V that were given, the calls, the three lent slices before, and the answer and the slices
+-- after.
+pub record CarriesOut (rule size : ℕ) (calls : List Call) (t answers room : List ℕ) (r : Reply) (t' answers' room' : List ℕ) : Type 0 where
+  -- a list for which no book is opened leaves all as it was
+  pub refused : (first (open_checks rule size) ≡ 0 → ⊥) → (r ≡ not_opened (first (open_checks rule size))) × (t' ≡ t) × (answers' ≡ answers) × (room' ≡ room)
   -- else the calls are made on a fresh book
-  pub done : carry_number rule size calls answers ≡ 0
-      → let k = carried (count_calls calls answers) calls (opening rule size).head t room in
-      (r ≡ record { number = 0; head = k.head }) × (t' ≡ k.table) × (answers' ≡ k.numbers ++ drop (count_calls calls answers) answers) × (room' ≡ k.room)
-  -- head, table and numbers are those of the journal of these calls, and demand 3 holds of it
-  pub demand : carry_number rule size calls answers ≡ 0
-      → let cs = calls_in (count_calls calls answers) calls (opening rule size).head t room in
+  pub done : first (open_checks rule size) ≡ 0
+      → let k = carried (made calls answers) (opening rule size).head t room in
+      (r ≡ record { number = 0; head = k.head }) × (t' ≡ k.table) × (answers' ≡ k.numbers ++ drop (min (length calls) (length answers)) answers) × (room' ≡ k.room)
+  -- what was left and answered is that of their journal, and demand 3 holds of it
+  pub demand : first (open_checks rule size) ≡ 0
+      → let cs = lent (made calls answers) (opening rule size).head t room in
       let j = calls_on (opening rule size).head t cs in
-      (r.head ≡ j.head) × (t' ≡ j.table)
-      × (answers' ≡ map (λ e. e.number) j.log ++ drop (count_calls calls answers) answers) × Demand3 rule size t cs j
+      (r ≡ record { number = 0; head = j.head }) × (t' ≡ j.table) × (answers' ≡ map (λ e. e.number) j.log ++ drop (min (length calls) (length answers)) answers)
+      × Demand3 rule size t cs j

@@ -1,2 +1,1 @@
 pub mod Carried
-pub mod Reading

@@ -1,37 +1,22 @@
-// A list of calls carried out on a fresh book, from a lent slice of numbers.
+// A list of calls carried out on a fresh book.
 #![tactic(auto)]
 
-ghost use Rattle.std.specs.Prelude.{◌≡◌, false, cond, ◌∷◌, ◌++◌, [], ◌≤◌, length};
-ghost use Rattle.std.specs.List.{list_any};
-ghost use Rattle.refusal.specs.Numbers.{◌if◌, first};
+ghost use Rattle.std.specs.Prelude.{◌≡◌, ◌≤◌, List, ℕ, length};
 ghost use Rattle.refusal.specs.Refusals.{outcome_number};
-ghost use Rattle.book.specs.Head.{open_checks};
-ghost use Rattle.journal.specs.Carried.{age_off, Makes, MakesAll, CarriesOut};
-ghost use Rattle.journal.specs.Reading.{age_read, call_read, called};
+ghost use Rattle.book.specs.Calls.{enter};
+ghost use Rattle.book.specs.Memory.{Audited};
+ghost use Rattle.journal.specs.Carried.{called, Makes, MakesAll, CarriesOut};
 
 use book::{Head, Lift, Reply, Report, Setting, Tip, Transfer};
-use ledger::{opening, rules};
+use ledger::{audit, opening, rules};
+use posting::keeping::TableKeeping;
+use motions::Posting;
 use refusal::Refusal;
-
-// A call is six numbers: its kind and its arguments.
-pub const CALL_SIZE: usize = 6;
-
-// The kinds of a call, by their numbers in a list.
-const TRANSFER: u32 = 0;
-
-const HELD: u32 = 1;
-
-const SPREAD: u32 = 2;
-
-const LIFT: u32 = 4;
-
-const TIP: u32 = 5;
-
-const SETTING: u32 = 6;
+use reports::known;
 
 // A call of a list.
 #[derive(Clone, Copy, Debug, PartialEq, Eq)]
-enum Call {
+pub enum Call {
     Transfer(Transfer),
     Lift(Lift),
     Tip(Tip),
@@ -39,120 +24,108 @@ enum Call {
     Report(Report),
 }
 
-// An age, which is a number of 16 bits.
-fn read_age(age: u32) -> Result<u16, Refusal>
-    ensures { result ≡ age_read age }
+// Something is posted to a book that adds up.
+fn post<P: Posting>(
+    head: &mut Head,
+    table: &mut [u32],
+    work: &mut TableKeeping,
+    p: P,
+) -> Result<(), Refusal>
+    requires { Audited head.old table.old }
+    ensures { (room : List ℕ) → Makes (enter (P.asked p)) head.old head.new table.old table.new room room result }
 {
-    u16::try_from(age).map_err(|_| Refusal::AgeOver)
-}
-
-// The call that six numbers are.
-#[tactic(auto, unfolding(crate::specs::Reading::call_read, crate::specs::Carried::age_off))]
-fn read_call(six: &[u32; CALL_SIZE]) -> Result<Call, Refusal>
-    ensures { result ≡ call_read six.now }
-{
-    Ok(match *six {
-        [TRANSFER, source, destination, minute, weight, age] => Call::Transfer(Transfer {
-            source,
-            destination,
-            minute,
-            weight,
-            age: read_age(age)?,
-        }),
-        [LIFT, source, minute, weight, age, _] => Call::Lift(Lift {
-            source,
-            minute,
-            weight,
-            age: read_age(age)?,
-        }),
-        [TIP, destination, minute, ..] => Call::Tip(Tip {
-            destination,
-            minute,
-        }),
-        [SETTING, vessel, rule, ..] => Call::Setting(Setting { vessel, rule }),
-        [HELD, vessel, ..] => Call::Report(Report::Held(vessel)),
-        [SPREAD, origin, from, to, ..] => Call::Report(Report::Spread(origin, from, to)),
-        _ => Call::Report(Report::Whole), // 3, and every other number
-    })
-}
-
-// That call is made: the one place, beside the one where it was read, that looks at its kind.
-fn make(head: Head, table: &mut [u32], call: Call, room: &mut [u32]) -> Reply
-    ensures { Makes head (called call room.old) table.old room.old table.new room.new result }
-{
-    match call {
-        Call::Transfer(x) => posting::transfer(head, table, x).into(),
-        Call::Lift(x) => posting::lift(head, table, x).into(),
-        Call::Tip(y) => posting::tip(head, table, y),
-        Call::Setting(s) => rules::set_rule(head, table, s),
-        Call::Report(asked) => reports::report(head, table, asked, room),
-    }
-}
-
-// Whether each age of the calls is a number of 16 bits.
-#[tactic(auto, using(crate::proofs::Reading::scan_turn, crate::proofs::Reading::scan_found))]
-fn check_ages(calls: &[[u32; CALL_SIZE]]) -> Result<(), Refusal>
-    ensures { outcome_number result ≡ cond (list_any age_off calls.now) 18 0 }
-{
-    for six in calls {
-        read_call(six)?;
-    }
+    motions::post_known(head, table, work, p)?;
     Ok(())
 }
 
-// The checks of a list of calls: those of opening, then its ages.
-#[tactic(auto, using(crate::proofs::Carrying::list_unopened, crate::proofs::Carrying::list_opened))]
-fn check_list(rule: u32, vessels: u32, calls: &[[u32; CALL_SIZE]]) -> Result<(), Refusal>
-    ensures { outcome_number result ≡ first (open_checks rule vessels ++ (18 if list_any age_off calls.now) ∷ []) }
+// A call is made on a book that adds up: the one place that looks at its kind.
+fn make(
+    head: &mut Head,
+    table: &mut [u32],
+    work: &mut TableKeeping,
+    call: Call,
+    room: &mut [u32],
+) -> Result<(), Refusal>
+    requires { Audited head.old table.old }
+    ensures { Makes (called call room.old) head.old head.new table.old table.new room.old room.new result }
 {
-    opening::check_opening(rule, vessels)?;
-    check_ages(calls)
+    match call {
+        Call::Transfer(x) => post(head, table, work, x),
+        Call::Lift(x) => post(head, table, work, x),
+        Call::Tip(y) => post(head, table, work, y),
+        Call::Setting(s) => rules::set_known(head, s),
+        Call::Report(asked) => known::report_known(head, table, asked, room),
+    }
 }
 
-// The calls in turn; the number of each goes to `answers`.
-#[tactic(auto, using(crate::proofs::Reading::reads_well))]
-fn call_all(
+// The number of an outcome: 0, or that of the refusal.
+fn number_of(made: Result<(), Refusal>) -> u32
+    ensures { result ≡ outcome_number made }
+{
+    match made {
+        Ok(()) => 0,
+        Err(why) => u32::from(why),
+    }
+}
+
+// The calls in turn on a book that adds up, in memory that is made once; the number of each goes to `answers`.
+fn make_known(
     fresh: Head,
     table: &mut [u32],
-    calls: &[[u32; CALL_SIZE]],
+    calls: &[Call],
     answers: &mut [u32],
     room: &mut [u32],
 ) -> Head
-    requires { (length calls.now ≤ length answers.old) × (list_any age_off calls.now ≡ false) }
+    requires { Audited fresh table.old × (length calls.now ≤ length answers.old) }
     ensures { MakesAll calls.now fresh table.old answers.old room.old
         table.new answers.new room.new result }
 {
     let mut head = fresh;
-    for (i, six) in calls.iter().enumerate() {
-        let call = read_call(six).unwrap(); // its age was checked before
-        let made = make(head, table, call, room);
-        answers[i] = made.number;
-        head = made.head;
+    let mut work = TableKeeping::new();
+    for (i, call) in calls.iter().enumerate() {
+        answers[i] = number_of(make(&mut head, table, &mut work, *call, room));
     }
     head
 }
 
-// Opens a book and carries out the calls, as many as there are numbers and room for answers. A list with an age that is none is refused
-// before any of its calls is made.
-#[tactic(auto, using(crate::proofs::Carrying::carry_few, crate::proofs::Carrying::carry_ready, crate::proofs::Carrying::carry_done))]
+// The calls in turn on any book. Checks 1 and 4 are made once: a book that adds up still does after every call, and where it is off every call is refused.
+fn make_all(
+    fresh: Head,
+    table: &mut [u32],
+    calls: &[Call],
+    answers: &mut [u32],
+    room: &mut [u32],
+) -> Head
+    requires { length calls.now ≤ length answers.old }
+    ensures { MakesAll calls.now fresh table.old answers.old room.old
+        table.new answers.new room.new result }
+{
+    match audit::check_book(fresh, table) {
+        Ok(()) => make_known(fresh, table, calls, answers, room),
+        Err(why) => {
+            answers[..calls.len()].fill(u32::from(why));
+            fresh
+        }
+    }
+}
+
+// Opens a book and carries out the calls, as many as there is room for answers.
 pub fn carry_out(
     rule: u32,
     vessels: u32,
     table: &mut [u32],
-    calls: &[u32],
+    calls: &[Call],
     answers: &mut [u32],
     room: &mut [u32],
 ) -> Reply
     ensures { CarriesOut rule vessels calls.now table.old answers.old room.old
         result table.new answers.new room.new }
 {
-    let (groups, _) = calls.as_chunks::<CALL_SIZE>();
-    let n = groups.len().min(answers.len());
-    let calls = &groups[..n];
-    match check_list(rule, vessels, calls) {
+    match opening::check_opening(rule, vessels) {
         Ok(()) => {
+            let n = calls.len().min(answers.len());
             let fresh = opening::empty_head(rule, vessels);
-            let head = call_all(fresh, table, calls, answers, room);
+            let head = make_all(fresh, table, &calls[..n], answers, room);
             Reply { number: 0, head }
         }
         Err(why) => opening::refused(u32::from(why)),

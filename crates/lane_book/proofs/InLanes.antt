@@ -20,8 +20,9 @@ use Rattle.book.specs.Motion.{takes}
 use Rattle.book.proofs.Known.{Known}
 use Rattle.book.proofs.RuleLaws.{given_at}
 use Rattle.book.proofs.Sound.{after_length}
-use Rattle.motions.specs.Carrying.{Audited, Carriable, head_after}
-use Rattle.motions.proofs.Next.{work_known, vessels_fit}
+use Rattle.book.specs.Memory.{Audited}
+use Rattle.motions.specs.Carrying.{Carriable, head_after}
+use Rattle.book.proofs.Audited.{audited_known, vessels_fit}
 use Rattle.lane_book.specs.InLanes.{InLanes, BetweenVessels}
 
 module _ (h : Head) (c : Contents) (t : List ℕ) (w : Audited h (lay c.pieces t)) (m : Motion) (f : Carriable h m) (l : InLanes h c t) (s : BetweenVessels h m) where
@@ -32,7 +33,7 @@ module _ (h : Head) (c : Contents) (t : List ℕ) (w : Audited h (lay c.pieces t
   r = taken_of m.moves c
 
   k : Known h table
-  k = work_known h table w
+  k = audited_known h table w
 
   -- the pieces of the book are those in the lanes
   pieces_are : pieces_of h.pieces table ≡ c.pieces

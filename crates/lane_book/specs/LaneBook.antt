@@ -7,7 +7,7 @@ use Rattle.taking.specs.declared.Applied.{Applied}
 use Rattle.book.specs.declared.Transfer.{Transfer}
 use Rattle.book.specs.Head.{empty_head}
 use Rattle.book.specs.Calls.{post}
-use Rattle.motions.specs.Carrying.{Audited}
+use Rattle.book.specs.Memory.{Audited}
 use Rattle.motions.specs.Posting.{said, Posts}
 use Rattle.lane_book.specs.declared.LaneBook.{LaneBook}
 use Rattle.lane_book.specs.InLanes.{InLanes}
@@ -27,7 +27,8 @@ pub record Opened (rule size : ℕ) (b : LaneBook) : Type 0 where
   pub stands : (t : List ℕ) → 4 ≤ length t → Stands b t
   pub bare : (t : List ℕ) → written b t ≡ t
 
--- What a transfer promises: answer and table are those of the call, and the next one can be posted.
+-- What a transfer promises: answer and table are those of the call, and the next one can be posted. The table that is lent stays as it is.
 pub record Enters (x : Transfer) (b b' : LaneBook) (t t' : List ℕ) (r : Result Applied Refusal) : Type 0 where
   pub posts : Posts b.head (post x) (written b t) (written b' t') (said b'.head r)
   pub stands : Stands b' t'
+  pub lent : t' ≡ t

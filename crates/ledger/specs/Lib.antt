@@ -1,1 +1,2 @@
 pub mod Audit
+pub mod Setting

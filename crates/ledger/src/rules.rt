@@ -1,11 +1,13 @@
 // The rules of a book's vessels: the one by which a holder's pieces are picked, and another one set for later picks.
-ghost use Rattle.std.specs.Prelude.{◌≡◌, ◌<◌};
+ghost use Rattle.std.specs.Prelude.{◌≡◌, ◌<◌, ◌≤◌, List, ℕ};
 ghost use Rattle.refusal.specs.Numbers.{first};
 ghost use Rattle.refusal.specs.Refusals.{outcome_number};
 ghost use Rattle.book.specs.Head.{most_vessels, rule_at};
 ghost use Rattle.book.specs.Setting.{setting_checks, ruled};
 ghost use Rattle.book.specs.Calls.{set_rule};
-ghost use Rattle.book.specs.Memory.{number_of, call_on, replied};
+ghost use Rattle.book.specs.Memory.{call_on, replied};
+ghost use Rattle.book.specs.Memory.{Audited};
+ghost use Rattle.ledger.specs.Setting.{Sets};
 
 use super::audit;
 use book::{Head, Reply, SCALE, Setting};
@@ -23,16 +25,14 @@ pub fn rule_at(head: &Head, holder: u32) -> u32
     head.rules[at]
 }
 
-// The head with the vessel's rule set.
+// The vessel's rule set in the head.
 #[tactic(auto, unfolding(book::specs::Setting::ruled))]
-fn with_rule(head: Head, s: Setting) -> Head
+fn give_rule(head: &mut Head, s: Setting)
     requires { s.vessel < most_vessels }
-    ensures { result ≡ ruled head s }
+    ensures { head.new ≡ ruled head.old s }
 {
-    let mut next = head;
     let at = s.vessel as usize;
-    next.rules[at] = s.rule;
-    next
+    head.rules[at] = s.rule;
 }
 
 // The checks after 1 and 4.
@@ -49,28 +49,33 @@ fn check_setting(vessels: u32, s: Setting) -> Result<(), Refusal>
     Ok(())
 }
 
-// All checks of a setting.
-#[tactic(auto, using(crate::proofs::Ruled::set_off, crate::proofs::Ruled::set_on))]
-fn check(head: Head, table: &[u32], s: Setting) -> Result<(), Refusal>
-    ensures { outcome_number result ≡ number_of head table.now (set_rule s) }
+// A vessel's rule set on a book that adds up: one number of the head changes, where no check applies.
+#[tactic(auto, using(crate::proofs::Ruled::set_inside))]
+pub fn set_known(head: &mut Head, s: Setting) -> Result<(), Refusal>
+    requires { head.old.vessels ≤ most_vessels }
+    ensures { (t : List ℕ) → Audited head.old t → Sets s head.old head.new t result }
 {
-    audit::check_book(head, table)?;
-    check_setting(head.vessels, s)
+    check_setting(head.vessels, s)?;
+    give_rule(head, s);
+    Ok(())
 }
 
-// A vessel's rule set: one number of the head changes, where no check applies.
-#[tactic(auto, using(crate::proofs::Ruled::set_inside, crate::proofs::Ruled::set_accepted, crate::proofs::Ruled::set_refused))]
+// The same on any book: 1 and 4 come first.
+fn set_checked(head: &mut Head, table: &[u32], s: Setting) -> Result<(), Refusal>
+    ensures { Sets s head.old head.new table.now result }
+{
+    audit::check_book(*head, table)?;
+    set_known(head, s)
+}
+
+// A vessel's rule set, with the head by value.
 pub fn set_rule(head: Head, table: &[u32], s: Setting) -> Reply
     ensures { result ≡ replied (call_on head table.now (set_rule s)) }
 {
-    match check(head, table, s) {
-        Ok(()) => Reply {
-            number: 0,
-            head: with_rule(head, s),
-        },
-        Err(why) => Reply {
-            number: u32::from(why),
-            head,
-        },
-    }
+    let mut next = head;
+    let number = match set_checked(&mut next, table, s) {
+        Ok(()) => 0,
+        Err(why) => u32::from(why),
+    };
+    Reply { number, head: next }
 }

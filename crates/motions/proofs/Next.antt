@@ -1,6 +1,6 @@
 -- A motion on a book known to add up: the pieces moved and the next head are together the book after it.
 -- Assumes nothing.
-use Rattle.std.proofs.Common.{◌≡◌, ◌∙◌, Some, List, ℕ, ◌+◌, ◌-◌, ◌≤◌, ◌<◌, arith, eqb}
+use Rattle.std.proofs.Common.{◌≡◌, ◌∙◌, Some, List, ℕ, ◌+◌, ◌-◌, ◌<◌, arith, eqb}
 use Rattle.std.proofs.lemmas.Bool.Decides.{nat_tests}
 use Rattle.table.specs.Pieces.{only, held}
 use Rattle.table.specs.Table.{pieces_of, places_of, places_in}
@@ -8,29 +8,16 @@ use Rattle.taking.specs.Taken.{Taken}
 use Rattle.taking.specs.Taking.{handed}
 use Rattle.taking.specs.declared.Applied.{Applied}
 use Rattle.taking.specs.Applied.{accepted, applied}
-use Rattle.refusal.specs.Numbers.{first}
 use Rattle.book.specs.declared.Head.{Head}
 use Rattle.book.specs.declared.Motion.{Motion}
-use Rattle.book.specs.Head.{Book, most_vessels, most_holders, Sized, Shiftable, balance_at, with_balance, holdings, shifted, head_of, book_of}
+use Rattle.book.specs.Head.{Book, most_holders, Shiftable, balance_at, with_balance, holdings, shifted, head_of, book_of}
 use Rattle.book.specs.Motion.{takes, pieces_after, book_after}
-use Rattle.book.specs.Memory.{book_checks, number_of, call_on}
 use Rattle.book.proofs.BalanceLaws.{Holders, Matches, matches_balances, long_balances, shift_matches, shift_there}
-use Rattle.book.proofs.Sound.{takes_fair, held_after, SizedBook}
-use Rattle.book.proofs.Memory.{book_passed}
-use Rattle.book.proofs.Known.{Known, known_up}
-use Rattle.motions.specs.Carrying.{Audited, Carriable, next_head, Countable}
-use Rattle.book.proofs.After.{known_after, length_after}
-use Rattle.book.specs.Calls.{Call, meaning}
-
--- past 1 and 4
-pub audited : (h : Head) (t : List ℕ) (n : ℕ) → (n ≡ first (book_checks h t)) × Sized h → n ≡ 0 → Audited h t
-audited h t n e z = grind (arith, book_passed h t)
-
-pub work_known : (h : Head) (t : List ℕ) → Audited h t → Known h t
-work_known h t w = known_up h t w.sized w.book_adds_up
-
-pub vessels_fit : (h : Head) (t : List ℕ) → Audited h t → h.vessels ≤ most_vessels
-vessels_fit h t w = (work_known h t w).sound.vessels_fit
+use Rattle.book.proofs.Sound.{takes_fair, held_after}
+use Rattle.book.proofs.Known.{Known}
+use Rattle.book.specs.Memory.{Audited}
+use Rattle.motions.specs.Carrying.{Carriable, next_head, Countable}
+use Rattle.book.proofs.Audited.{audited_known}
 
 -- A motion.
 module _ (h : Head) (t : List ℕ) (w : Audited h t) (m : Motion) where
@@ -41,7 +28,7 @@ module _ (h : Head) (t : List ℕ) (w : Audited h t) (m : Motion) where
   r = takes b m
 
   k : Known h t
-  k = work_known h t w
+  k = audited_known h t w
 
   born_is : r.born ≡ m.moves.weight - held m.moves.source b.pieces
   born_is = (takes_fair b m).born_is
@@ -78,11 +65,3 @@ module _ (h : Head) (t : List ℕ) (w : Audited h t) (m : Motion) where
     pub countable : (a : Applied) → applied (places_of t) m.moves r ≡ Some a → Countable h m a
     unfolding places_in applied takes
     countable a e = grind (arith, nat_tests, born_is, shifts)
-
--- After a call the book adds up again, if an accepted one leaves numbers of 32 bits.
-pub audited_after : (h : Head) (t : List ℕ) (w : Audited h t) (c : Call) → (number_of h t c ≡ 0 → SizedBook ((meaning c).next (book_of h t)))
-    → Audited (call_on h t c).head (call_on h t c).table
-audited_after h t w c z =
-    let k = work_known h t w in
-    let after = known_after h t k c z in
-    record { long = rw (length_after h t k c) w.long; book_adds_up = after.adds; sized = after.sized }

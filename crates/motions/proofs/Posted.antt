@@ -28,9 +28,11 @@ use Rattle.book.proofs.BalanceLaws.{Holders}
 use Rattle.book.proofs.Sound.{number, own, proper, after_length, whole, posted_own, motion_light, SizedBook, keeps}
 use Rattle.book.proofs.Memory.{number_same, no_place, refused_on, accepted_on, off_number}
 use Rattle.book.proofs.Known.{Known, standing_same}
-use Rattle.motions.specs.Carrying.{Audited, Carriable, next_head, Countable}
+use Rattle.book.specs.Memory.{Audited}
+use Rattle.motions.specs.Carrying.{Carriable, next_head, Countable}
 use Rattle.motions.specs.Posting.{refused_with, said, Posts, Tips, PostsKnown}
-use Rattle.motions.proofs.Next.{work_known, next_head_is, countable, audited_after}
+use Rattle.book.proofs.Audited.{audited_known, audited_after}
+use Rattle.motions.proofs.Next.{next_head_is, countable}
 
 -- the answer is a refusal, passed on by `?`
 is_refusal : (q : Result Applied Refusal) (why : Refusal) → IsErrAnd q (λ (other : Refusal). other ≡ why) → q ≡ Err why
@@ -61,7 +63,7 @@ module _ (v : Posting) (h : Head) (t : List ℕ) where
     b = book_of h t
 
     k : Known h t
-    k = work_known h t w
+    k = audited_known h t w
 
     abbrev m : Motion
     m = motion_on p b

@@ -1,19 +1,13 @@
 -- Carrying a motion: what it asks, and how the code makes the next head, where two balances change. proofs/Next.antt shows that this is the head of the
 -- book that the motion leaves.
 -- Definitions only. Assumes nothing.
-use Rattle.std.specs.Prelude.{◌≡◌, ◌≢◌, true, List, ℕ, ◌+◌, ◌-◌, ◌≤◌, ◌<◌, length, Option, None, Some}
+use Rattle.std.specs.Prelude.{◌≢◌, ◌+◌, ◌-◌, ◌≤◌, ◌<◌, Option, None, Some}
 use Rattle.refusal.specs.Numbers.{TOP}
 use Rattle.table.specs.Table.{most_places}
 use Rattle.taking.specs.declared.Applied.{Applied}
 use Rattle.book.specs.declared.Head.{Head}
 use Rattle.book.specs.declared.Motion.{Motion}
-use Rattle.book.specs.Head.{most_holders, Sized, Shiftable, balance_at, shifted, adds_up}
-
--- A book in memory that is known to add up.
-pub record Audited (h : Head) (t : List ℕ) : Type 0 where
-  pub long : 4 ≤ length t
-  pub book_adds_up : adds_up h t ≡ true
-  pub sized : Sized h
+use Rattle.book.specs.Head.{most_holders, Shiftable, balance_at, shifted}
 
 -- What carrying a motion asks, as the checks of a call see to it: two holders, room at the destination, and a count that is not full.
 pub record Carriable (h : Head) (m : Motion) : Type 0 where

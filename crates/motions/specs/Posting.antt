@@ -11,7 +11,7 @@ use Rattle.book.specs.declared.Reply.{Reply}
 use Rattle.book.specs.Calls.{Posting, Call, enter, tip}
 use Rattle.book.specs.Memory.{call_on}
 use Rattle.book.specs.Memory as Memory
-use Rattle.motions.specs.Carrying.{Audited}
+use Rattle.book.specs.Memory.{Audited}
 
 -- a refusal: the head as given, and all other numbers 0
 abbrev pub refused_with : Head → ℕ → Transferred

@@ -6,7 +6,8 @@ ghost use Rattle.book.specs.declared.Head.{Head};
 ghost use Rattle.book.specs.declared.Motion.{Motion};
 ghost use Rattle.book.specs.Head.{book_of};
 ghost use Rattle.book.specs.Motion.{takes};
-ghost use Rattle.motions.specs.Carrying.{Audited, Carriable, head_after};
+ghost use Rattle.book.specs.Memory.{Audited};
+ghost use Rattle.motions.specs.Carrying.{Carriable, head_after};
 
 use book::{Head, Motion};
 use taking::Applied;
@@ -22,11 +23,18 @@ pub trait Keeping {
     // The motions that it can carry, of a book with this head.
     ghost carries: { Head → Motion → Type 0 };
 
+    // What carrying may do to the lent table.
+    ghost leaves: { List ℕ → List ℕ → Type 0 };
+
     // Moves the pieces of a motion and says what was done, or answers `None` where the pieces afterwards would exceed the places, and moves nothing.
     fn carry(&mut self, head: &Head, table: &mut [u32], m: Motion) -> Option<Applied>
         requires known { Audited head.now (written self.old table.old) }
         requires carriable { Carriable head.now m }
         requires kept { keeps self.old head.now table.old × carries head.now m }
         ensures moves { Moves (places_of (written self.old table.old)) m.moves (takes (book_of head.now (written self.old table.old)) m) (written self.old table.old) (written self.new table.new) result }
-        ensures kept { keeps self.new (head_after head.now m result) table.new };
+        ensures kept { keeps self.new (head_after head.now m result) table.new }
+        ensures leaves { leaves table.old table.new };
+
+    // It may leave it as it was.
+    ghost untouched: { (t : List ℕ) → leaves t t };
 }

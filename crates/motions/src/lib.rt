@@ -7,7 +7,8 @@ ghost use Rattle.refusal.specs.Refusals.{outcome_number};
 ghost use Rattle.book.specs.Head.{most_vessels, Sized};
 ghost use Rattle.book.specs.Motion.{of_head, motion};
 ghost use Rattle.book.specs.Calls.{Posting, terms};
-ghost use Rattle.motions.specs.Carrying.{Audited, Carriable};
+ghost use Rattle.book.specs.Memory.{Audited};
+ghost use Rattle.motions.specs.Carrying.{Carriable};
 ghost use Rattle.motions.specs.Posting.{PostsKnown};
 
 use book::{Head, Motion};
@@ -51,6 +52,7 @@ pub fn post_known<K: Keeping, P: Posting>(
     requires carried { first ((terms (P.asked p)).checks (of_head head.old)) ≡ 0 → K.carries head.old (motion (terms (P.asked p)) (of_head head.old)) }
     ensures posts { PostsKnown (P.asked p) head.old head.new (K.written keeping.old table.old) (K.written keeping.new table.new) result }
     ensures kept { K.keeps keeping.new head.new table.new }
+    ensures leaves { K.leaves table.old table.new }
 {
     p.check(head)?;
     let m = p.motion(head);

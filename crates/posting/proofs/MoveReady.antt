@@ -11,12 +11,13 @@ use Rattle.book.specs.declared.Head.{Head}
 use Rattle.book.specs.declared.Motion.{Motion}
 use Rattle.book.proofs.HolderLaws.{holder_bound}
 use Rattle.book.proofs.Known.{Known}
-use Rattle.motions.specs.Carrying.{Audited, Carriable}
-use Rattle.motions.proofs.Next.{work_known}
+use Rattle.book.specs.Memory.{Audited}
+use Rattle.motions.specs.Carrying.{Carriable}
+use Rattle.book.proofs.Audited.{audited_known}
 
 module _ (h : Head) (t : List ℕ) (w : Audited h t) (m : Motion) (f : Carriable h m) where
   k : Known h t
-  k = work_known h t w
+  k = audited_known h t w
 
   -- what the move asks
   pub move_ready : (p : ℕ) → p ≡ places_of t → Ready h.pieces p m.moves t

@@ -30,6 +30,10 @@ impl Keeping for TableKeeping {
 
     ghost carries = { λ h m. ⊤ };
 
+    ghost leaves = { λ t t'. ⊤ };
+
+    ghost untouched = { λ t. tt };
+
     #[tactic(auto, unfolding(book::specs::Motion::takes))]
     fn carry(&mut self, head: &Head, table: &mut [u32], m: Motion) -> Option<Applied> {
         let n = head.pieces as usize;

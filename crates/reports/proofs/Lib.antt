@@ -2,3 +2,4 @@ pub mod Scattered
 pub mod Square
 pub mod Filled
 pub mod Asked
+pub mod Told

@@ -14,6 +14,7 @@ use refusal::Refusal;
 use table::reading::Pieces;
 
 mod filling; // filling.rt: what a report adds up, in one pass over the pieces
+pub mod known; // known.rt: a report on a book that adds up
 
 // The checks after 1 and 4. What is asked is told by its variant, which is looked at once here and once where the room is filled.
 #[tactic(auto, unfolding(book::specs::Reports::asked_checks))]

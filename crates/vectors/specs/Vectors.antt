@@ -2,9 +2,10 @@
 -- six places, and listed; or a rule, and calls that are carried out.
 -- Definitions only. Assumes nothing.
 use Rattle.std.specs.Prelude.{cond, List, [], ◌∷◌, ◌++◌, ◌≡◌, ℕ, ◌+◌, ◌*◌, ◌≤◌, eqb, get_or, take, drop, replicate, decimal}
-use Rattle.refusal.specs.Numbers.{if_zero}
-use Rattle.book.specs.Head.{opening}
-use Rattle.journal.specs.Carried.{call_size, count_calls, carried, carry_number}
+use Rattle.refusal.specs.Numbers.{first, if_zero}
+use Rattle.book.specs.Head.{open_checks, opening}
+use Rattle.journal.specs.Carried.{carried}
+use Rattle.encoding.specs.Encoding.{call_size, ages_off, calls_in, count_calls}
 use Rattle.fields.specs.Layout.{sheet_size}
 use Rattle.fields.specs.Movements.{given_size}
 use Rattle.writing.specs.Writing.{count_given, written}
@@ -99,15 +100,18 @@ numbers_line ns = numbers_text ns ++ (newline ∷ [])
 
 -- What is shown of calls that are carried out under a rule: the number of each, and the room after. A list that is refused leaves both as
 -- they were.
-abbrev pub carried_listing : ℕ → List ℕ → List ℕ
-carried_listing rule calls =
-    let answers = replicate answers_room unwritten in
-    let room = replicate report_room unwritten in
-    let count = count_calls calls answers in
-    let k = carried count calls (opening rule vessels).head (replicate table_room 0) room in
-    if_zero (carry_number rule vessels calls answers)
-    (numbers_line (k.numbers ++ drop count answers) ++ numbers_line k.room)
-    (numbers_line answers ++ numbers_line room)
+abbrev pub unread_listing : List ℕ
+unread_listing = numbers_line (replicate answers_room unwritten) ++ numbers_line (replicate report_room unwritten)
+
+abbrev pub made_listing : ℕ → ℕ → List ℕ → List ℕ
+made_listing n rule numbers =
+    let k = carried (calls_in n numbers) (opening rule vessels).head (replicate table_room 0) (replicate report_room unwritten) in
+    numbers_line (k.numbers ++ drop n (replicate answers_room unwritten)) ++ numbers_line k.room
+
+unfoldable pub carried_listing : ℕ → List ℕ → List ℕ
+carried_listing rule numbers =
+    let n = count_calls numbers answers_room in
+    cond (ages_off n numbers) unread_listing (if_zero (first (open_checks rule vessels)) (made_listing n rule numbers) unread_listing)
 
 abbrev pub calls_listing : List ℕ → List ℕ
 calls_listing text = carried_listing (get_or (call_numbers text) 0 0) (drop 1 (call_numbers text))

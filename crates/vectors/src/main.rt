@@ -3,13 +3,15 @@
 // 01's, K1 to K10; the others tell apart what those can't.
 #![tactic(auto)]
 
-ghost use Rattle.std.specs.Prelude.{◌≡◌, get_or, drop, OnOk};
+ghost use Rattle.std.specs.Prelude.{◌≡◌, ◌++◌, get_or, drop, replicate, OnOk};
 ghost use Rattle.std.specs.Io.KnownBytes.{Appends};
-ghost use Rattle.vectors.specs.Vectors.{heading, heading_line, VectorWritten, vector_listing, calls_listing, numbers_line, shown};
+ghost use Rattle.vectors.specs.Vectors.{answers_room, report_room, unwritten, heading, heading_line, VectorWritten, vector_listing, carried_listing, calls_listing, numbers_line, shown};
 
+use book::Report;
+use encoding::CALL_SIZE;
 use fields::layout::{ENTRY_SIZE, GIVEN_SIZE, HEADER_SIZE, NAME_SIZE};
 use input::read_full;
-use journal::CALL_SIZE;
+use journal::Call;
 use std::io;
 use std::io::Write;
 
@@ -74,25 +76,32 @@ fn print_line<W: Write>(numbers: &[u32], out: &mut W) -> io::Result<()>
     out.write_all(b"\n")
 }
 
-// Carries out a list of calls on a fresh book of three vessels, and writes the number of each and the room after. Demand 3 is in the
-// contract of `carry_out`.
+// Carries out calls in numbers on a fresh book of three vessels: the number of each goes to the answers, and reports to the room. Demand 3 is in the
+// contract of `journal::carry_out`.
+fn carry_out(rule: u32, numbers: &[u32], answers: &mut [u32], room: &mut [u32])
+    requires { (answers.old ≡ replicate answers_room unwritten) × (room.old ≡ replicate report_room unwritten) }
+    ensures { numbers_line answers.new ++ numbers_line room.new ≡ carried_listing rule numbers.now }
+{
+    let mut calls = [Call::Report(Report::Whole); CALLS];
+    let mut table = [0u32; TABLE];
+    match encoding::read_calls(numbers, &mut calls) {
+        Ok(n) => {
+            journal::carry_out(rule, VESSELS as u32, &mut table, &calls[..n], answers, room);
+        }
+        Err(_) => {}
+    }
+}
+
+// Writes the number of each call, and the room after them.
 fn show_calls<W: Write>(text: &[u8], out: &mut W) -> io::Result<()>
     ensures { OnOk result (Appends (W.contents out.old) (W.contents out.new) (calls_listing text.now)) }
 {
     let mut numbers = [0u32; 1 + CALL_SIZE * CALLS];
-    let mut table = [0u32; TABLE];
     let mut answers = [UNWRITTEN; CALLS];
     let mut room = [UNWRITTEN; VESSELS * VESSELS];
     let count = text::parsing::read(text, &mut numbers);
     let (rule, calls) = split_rule(&numbers[..count]);
-    journal::carry_out(
-        rule,
-        VESSELS as u32,
-        &mut table,
-        calls,
-        &mut answers,
-        &mut room,
-    );
+    carry_out(rule, calls, &mut answers, &mut room);
     print_line(&answers, out)?;
     print_line(&room, out)
 }

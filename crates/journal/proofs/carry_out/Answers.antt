@@ -1,6 +1,6 @@
--- `journal::carry_out` meets its contract at a refused list; at one that is carried out the check finds it by `carry_done`.
-use Rattle.journal.proofs.Carrying.{carry_refused}
+-- `carry_out` meets its contract: the calls were made on a fresh book.
+use Rattle.journal.proofs.Carrying.{carry_done}
 use Rattle.journal.proofs.carry_out.Goals as goal
 
-pub returns-in-Err : goal.returns-in-Err
-returns-in-Err c = carry_refused _ _ _ _ _ _ c.as_chunks.ensures.front c.min-n.ensures _ c.refused.ensures c.from.ensures c.in-Err.ensures
+pub returns-in-Ok : goal.returns-in-Ok
+returns-in-Ok c = carry_done _ _ c.in-Ok.ensures _ _ _ _ _ _ _ _ _ _ c.min-n.ensures c.empty_head-fresh.ensures c.make_all-head.ensures

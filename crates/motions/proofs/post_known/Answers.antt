@@ -1,5 +1,5 @@
 -- `post_known` meets its contract: the ways out of it are those of `Posted`.
-use Rattle.motions.proofs.Next.{vessels_fit}
+use Rattle.book.proofs.Audited.{vessels_fit}
 use Rattle.motions.proofs.Posted.{post_refused, post_full, post_countable, post_made}
 use Rattle.motions.proofs.post_known.Goals as goal
 
@@ -26,3 +26,6 @@ pub returns-clause-posts : goal.returns-clause-posts
 returns-clause-posts g c =
     post_made _ _ _ c.requires.known c.in_ok-check.ensures _ c.motion-m.ensures.motion c.motion-m.ensures.carriable _ _ c.carry.ensures.moves
     _ c.in_ok-moved.ensures.ok_part _ c.advance.ensures
+
+pub returns-in_err-check-clause-leaves : goal.returns-in_err-check-clause-leaves
+returns-in_err-check-clause-leaves g c = g.met.K.Keeping.untouched _

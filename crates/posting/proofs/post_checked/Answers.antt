@@ -1,6 +1,6 @@
 -- `post_checked` meets its contract: refused by 1 or 4, or the book is known.
 use Rattle.std.proofs.Common.{refl}
-use Rattle.motions.proofs.Next.{audited}
+use Rattle.book.proofs.Audited.{audited}
 use Rattle.motions.proofs.Posted.{off_posts}
 use Rattle.posting.proofs.post_checked.Goals as goal
 

@@ -12,4 +12,6 @@ post_known-requires-clause-carried c = between _ _
 
 pub returns : goal.returns
 unfolding written
-returns c = record { posts = c.post_known.ensures.posts.posts; stands = record { audited = c.post_known.ensures.posts.audited; kept = c.post_known.ensures.kept } }
+returns c =
+    let e = c.post_known.ensures in
+    record { posts = e.posts.posts; stands = record { audited = e.posts.audited; kept = e.kept }; lent = e.leaves }
