@@ -3,14 +3,14 @@
 use Rattle.std.proofs.Common.{◌≡◌, refl, sym, ap, ◌∙◌, List, ℕ, Result, Ok, Err}
 use Rattle.refusal.specs.declared.Refusal.{Refusal}
 use Rattle.refusal.specs.Refusals.{outcome_number}
-use Rattle.moving.specs.declared.Applied.{Applied}
+use Rattle.taking.specs.declared.Applied.{Applied}
 use Rattle.book.specs.declared.Head.{Head}
 use Rattle.book.specs.declared.Report.{Report}
 use Rattle.book.specs.declared.Setting.{Setting}
 use Rattle.book.specs.declared.Transferred.{Transferred}
 use Rattle.book.specs.Calls.{Posting, enter, set_rule, ask}
 use Rattle.book.specs.Memory.{call_on}
-use Rattle.book.proofs.InWords.{set_writes_nothing}
+use Rattle.book.proofs.Accepted.{set_writes_nothing}
 use Rattle.book.specs.Memory.{Audited}
 use Rattle.ledger.specs.Setting.{Sets}
 use Rattle.book.proofs.Audited.{audited_known, audited_after}

@@ -9,25 +9,25 @@ use Rattle.refusal.specs.Refusals as Refusals
 use Rattle.book.specs.declared.Head.{Head}
 use Rattle.book.specs.declared.Reply.{Reply}
 use Rattle.book.specs.declared.Report.{Report}
-use Rattle.book.specs.Reports.{report_row, report_checks, onto}
+use Rattle.book.specs.Reports.{report_row, asked_checks, onto}
 use Rattle.book.specs.Memory.{Audited}
 use Rattle.book.proofs.Audited.{passed}
-use Rattle.filling.specs.Scatter.{Reportable}
+use Rattle.reports.specs.Scatter.{Reportable}
 use Rattle.reports.specs.Asking.{Judged, Asks, Tells}
 use Rattle.reports.proofs.Asked.{asked_on, asked_refused, asked_there, asked_reportable, asked_accepted}
 
 module _ (h : Head) (t : List ℕ) (q : Report) (room : List ℕ) (w : Audited h t) where
-  judged : (n : ℕ) → n ≡ first (report_checks h.vessels (length room) q) → Judged h q t room n
+  judged : (n : ℕ) → n ≡ first (asked_checks h.vessels (length room) q) → Judged h q t room n
   judged = asked_on h t q room (passed h t w, w.sized)
 
   told : (n : ℕ) (r : List ℕ) → Asks h q t room r (record { number = n; head = h }) → (z : Result (Unit {0}) Refusal) → Refusals.outcome_number z ≡ n → Tells h q t room r z
   told n r a z e = record { number = e ∙ ap (λ (x : Reply). x.number) a.answer; room = a.room }
 
-  pub known_refused : (why : Refusal) → Refusals.number_of why ≡ first (report_checks h.vessels (length room) q)
+  pub known_refused : (why : Refusal) → Refusals.number_of why ≡ first (asked_checks h.vessels (length room) q)
       → (z : Result (Unit {0}) Refusal) → IsErrAnd z (λ (other : Refusal). other ≡ why) → Tells h q t room room z
   known_refused why e z ez = told (Refusals.number_of why) room (asked_refused h t q room why (judged _ e) _ refl) z (grind arith)
 
-  module _ (e : 0 ≡ first (report_checks h.vessels (length room) q)) where
+  module _ (e : 0 ≡ first (asked_checks h.vessels (length room) q)) where
     pub known_there : 4 * h.pieces ≤ length t
     known_there = asked_there h t q room 0 (judged 0 e) refl
 

@@ -2,7 +2,7 @@
 ghost use Rattle.book.specs.Memory.{Audited};
 ghost use Rattle.reports.specs.Asking.{Tells};
 
-use super::check_asked;
+use super::{check_asked, filling};
 use book::{Head, Report};
 use refusal::Refusal;
 use table::reading::Pieces;
