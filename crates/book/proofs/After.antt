@@ -1,5 +1,6 @@
--- AFTER A CALL on a book known to add up, the book is known to add up again, and the table is as long as before: so that many calls in turn need checks 1 and 4
--- once. An accepted call has to leave numbers of 32 bits. And a fresh book is known.
+-- AFTER A CALL on a book known to add up, the book is known to add up again, and the table is as long as before: so
+-- that many calls in turn need checks 1 and 4 once. An accepted call has to leave numbers of 32 bits. And a fresh book
+-- is known.
 -- Assumes nothing.
 use Rattle.std.proofs.Common.{◌≡◌, refl, ◌∙◌, List, ℕ, zero, suc, arith, length}
 use Rattle.table.specs.Pieces.{done}

@@ -1,5 +1,6 @@
--- ONE INDUCTION OVER LISTS OF CALLS. A relation between a sound book, a journal and the book afterwards, that holds where nothing is called and
--- is kept where a call is put in front, holds of every list of calls (`along`). What holds of the calls so far is such a relation too (`ever`).
+-- ONE INDUCTION OVER LISTS OF CALLS. A relation between a sound book, a journal and the book afterwards, that holds
+-- where nothing is called and is kept where a call is put in front, holds of every list of calls (`along`). What holds
+-- of the calls so far is such a relation too (`ever`).
 -- Assumes nothing.
 use Rattle.std.proofs.Common.{◌≡◌, refl, ap, subst, List, [], ◌∷◌, ◌++◌, ℕ, append_assoc, append-nil, length}
 use Rattle.refusal.specs.Numbers.{if_zero}

@@ -1,4 +1,5 @@
--- What is known of a head and a table that add up; and after a call they do so again, if an accepted one leaves numbers of 32 bits.
+-- What is known of a head and a table that add up; and after a call they do so again, if an accepted one leaves numbers
+-- of 32 bits.
 -- Assumes nothing.
 use Rattle.std.proofs.Common.{◌≡◌, refl, List, ℕ, ◌≤◌, arith}
 use Rattle.refusal.specs.Numbers.{first}

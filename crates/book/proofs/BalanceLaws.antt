@@ -1,5 +1,5 @@
--- Laws of the balances: when a list of 65 numbers, the scale's last, is the balances of some pieces, and what it becomes when weight goes
--- from one holder to another.
+-- Laws of the balances: when a list of 65 numbers, the scale's last, is the balances of some pieces, and what it
+-- becomes when weight goes from one holder to another.
 -- Assumes nothing.
 use Rattle.std.proofs.Common.{◌≡◌, refl, sym, ap, ◌≢◌, true, false, cond, List, [], ◌∷◌, ◌++◌, ℕ, zero, suc, ◌+◌, ◌-◌, ◌≤◌, ◌<◌, not-suc-le-zero, le_of_suc-le-suc, zero-add, add-zero, suc-add, arith, w32, Fits, eqb, length, get_or, length-append, replicate, ext_get_or, ◌∙◌}
 use lib.ListN.{get_or-eq_default, get_or-append}
@@ -108,7 +108,8 @@ set_long : (h : Head) (i w : ℕ) → length (with_balance h i w).balances ≡ l
 unfolding with_balance
 set_long h i w = grind (arith, common_steps)
 
--- Weight goes from holder s to holder d: what the holders then hold is what the head then says. One law for every call that moves weight.
+-- Weight goes from holder s to holder d: what the holders then hold is what the head then says. One law for every call
+-- that moves weight.
 module _ (h : Head) (ps qs : List Piece) (s given d received : ℕ) (hs : s < most_holders) (hd : d < most_holders) (m : Matches (holdings h) ps)
     (after : (v : ℕ) → held v qs ≡ (held v ps - only (eqb s v) given) + only (eqb d v) received) where
   abbrev less : Head

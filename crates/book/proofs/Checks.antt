@@ -1,5 +1,5 @@
--- The checks of transfer, lift, tip and the setting of a rule: what it tells of each that none applies, that none applies where that holds, and what
--- decides of a transfer once 5 to 8 do not.
+-- The checks of transfer, lift, tip and the setting of a rule: what it tells of each that none applies, that none
+-- applies where that holds, and what decides of a transfer once 5 to 8 do not.
 -- Assumes nothing.
 use Rattle.std.proofs.Common.{◌≡◌, ◌≢◌, ◌∙◌, lt-ltb, [], ◌∷◌, ℕ, ◌+◌, ◌≤◌, ◌<◌, ltb, eqb, arith}
 use Rattle.std.proofs.lemmas.Bool.Decides.{nat_tests}

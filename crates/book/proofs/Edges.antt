@@ -1,6 +1,6 @@
--- Every test and check of a book at its edge, in one table: of each clause of "adds up" a book that only it refuses, and of each number
--- the last that passes and the first that does not. A definition that is altered together with code and proofs fails here.
--- (Pieces above the places show alone only past the most places: `too_many`.)
+-- Every test and check of a book at its edge, in one table: of each clause of "adds up" a book that only it refuses,
+-- and of each number the last that passes and the first that does not. A definition that is altered together with code
+-- and proofs fails here. (Pieces above the places show alone only past the most places: `too_many`.)
 -- Assumes nothing.
 use Rattle.std.proofs.Common.{◌≡◌, refl, false, cond, List, [], ◌∷◌, ◌++◌, map, ℕ, ◌≤◌, ◌<◌, ◌-◌, arith, eqb, length, replicate}
 use Rattle.std.proofs.lemmas.Bool.Decides.{nat_tests}

@@ -1,5 +1,6 @@
--- A head and a table that add up, as one record, and what follows of those whose numbers are of 32 bits: the book that they hold is sound,
--- and what the code reads off the head is what the pieces say. They are made here, and nowhere else are the tests taken apart.
+-- A head and a table that add up, as one record, and what follows of those whose numbers are of 32 bits: the book that
+-- they hold is sound, and what the code reads off the head is what the pieces say. They are made here, and nowhere else
+-- are the tests taken apart.
 -- Assumes nothing.
 use Rattle.std.proofs.Common.{arith, ◌≡◌, refl, sym, true, List, ℕ, ◌*◌, ◌≤◌, length, drop, ◌∙◌}
 use Rattle.std.proofs.lemmas.Bool.Decides.{nat_tests}

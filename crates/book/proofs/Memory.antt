@@ -1,5 +1,5 @@
--- Head and table against the book: a head and a table that hold a sound book add up, a call on them is the call on the book, and
--- what it leaves holds the book that the call leaves.
+-- Head and table against the book: a head and a table that hold a sound book add up, a call on them is the call on the
+-- book, and what it leaves holds the book that the call leaves.
 -- Assumes nothing.
 use Rattle.std.proofs.Common.{◌≡◌, refl, sym, Bool, true, false, List, ℕ, ◌≤◌, arith, ltb, eqb, length, le-ltb}
 use Rattle.std.proofs.lemmas.Bool.Decides.{nat_tests}

@@ -1,6 +1,7 @@
--- What the definitions of the reports say together, in document 01's words: how many numbers each has, a held row sums to what the vessel holds,
--- whole is made of held rows, spread over every minute is a column of whole, spans that meet add up, and what is on the scale is in none of them. So a
--- definition that is changed alone falls out with the others. Edges.antt has each check of a report at its edge; where they pass, the room is long enough.
+-- What the definitions of the reports say together, in document 01's words: how many numbers each has, a held row sums
+-- to what the vessel holds, whole is made of held rows, spread over every minute is a column of whole, spans that meet
+-- add up, and what is on the scale is in none of them. So a definition that is changed alone falls out with the others.
+-- Edges.antt has each check of a report at its edge; where they pass, the room is long enough.
 -- Assumes nothing.
 use Rattle.std.proofs.Common.{◌≡◌, refl, sym, ap, Bool, true, ◌&&◌, List, [], ◌∷◌, ℕ, zero, suc, ◌+◌, ◌*◌, ◌≤◌, ◌<◌, add-zero, zero-mul, suc-mul, not-suc-le-zero, le_of_suc-le-suc, arith, eqb, length, get_or, length-append, get_or-append-add, ◌∙◌}
 use mathlib.Core.List.{foldr}

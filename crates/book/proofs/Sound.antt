@@ -1,7 +1,8 @@
--- What keeps a book sound. A sound book is one that adds up; an accepted call leaves a sound book, the pieces after it lie in the table
--- that it leaves, and the count of accepted transfers goes on as document 01 says. What a motion of pieces leaves is shown once,
--- for transfer, lift and tip, over whatever rule their source has; each kind of call has one clause of `keeps`. The count of pieces goes on as document 01
--- says where the pick is by one of the four first rules, which give at most one piece more (`count_kept`).
+-- What keeps a book sound. A sound book is one that adds up; an accepted call leaves a sound book, the pieces after it
+-- lie in the table that it leaves, and the count of accepted transfers goes on as document 01 says. What a motion of
+-- pieces leaves is shown once, for transfer, lift and tip, over whatever rule their source has; each kind of call has
+-- one clause of `keeps`. The count of pieces goes on as document 01 says where the pick is by one of the four first
+-- rules, which give at most one piece more (`count_kept`).
 -- Assumes nothing.
 use Rattle.std.proofs.Common.{◌≡◌, ◌⊎◌, refl, ◌↔◌, ◌≢◌, true, false, List, ◌++◌, ℕ, zero, suc, ◌+◌, ◌-◌, ◌*◌, ◌≤◌, ◌<◌, min, arith, T, ltb, eqb, length, drop, length-append, length-drop, ◌∙◌}
 use Rattle.std.proofs.lemmas.Bool.Decides.{nat_tests}
@@ -166,7 +167,8 @@ module _ (p : Terms) (ok : Proper p) (len : ℕ) (b : Book) where
   pub whole : p.counts ≡ 0 → (takes b m).split + (takes b m).born ≡ 0
   whole z = all_taken b m (ok.sweeps z (of_book b))
 
-  -- the count of pieces goes on as that of transfers does, but for the even ones, where the pick is by one of the four first rules
+  -- the count of pieces goes on as that of transfers does, but for the even ones, where the pick is by one of the four
+  -- first rules
   pub posted_count : rule_at b.rules p.source ≢ stirred_rule
       → length (pieces_after b m) + if_zero p.counts 0 (even_of (answer_of (takes b m))) ≡ length b.pieces + p.counts
   posted_count first = let one = ok.once in grind (arith, after_length b m, one_more b m first, whole)
@@ -203,7 +205,8 @@ keeps len b (set_rule s) o e =
       tally = omega arith;
     }
 
--- The count of pieces goes on as that of transfers does, but for the even ones, where the pick is by one of the four first rules.
+-- The count of pieces goes on as that of transfers does, but for the even ones, where the pick is by one of the four
+-- first rules.
 pub count_kept : (len : ℕ) (b : Book) (c : Call) → (meaning c).stirs b 0 ≡ false
     → length ((meaning c).next b).pieces + (meaning c).even b ≡ length b.pieces + (meaning c).counts
 count_kept len b (enter p) u = posted_count (terms p) (proper p) len b (eqb-false _ _ (grind arith))

@@ -1,4 +1,5 @@
--- Calls on a book. A call is data, so that a list of calls is a list, and all that document 01 says of a call is one clause of `meaning`.
+-- Calls on a book. A call is data, so that a list of calls is a list, and all that document 01 says of a call is one
+-- clause of `meaning`.
 -- Definitions only. Assumes nothing.
 use Rattle.std.specs.Prelude.{Bool, true, false, ◌&&◌, ◌||◌, ◌==◌, List, [], ◌∷◌, ◌++◌, filter, ℕ, zero, suc, ◌+◌, ltb, length}
 use Rattle.table.specs.declared.Piece.{Piece}
@@ -46,8 +47,8 @@ lift x = enter (by_lift x)
 pattern abbrev pub tip : Tip → Call
 tip y = enter (by_tip y)
 
--- "The answer carries the number of pieces moved whole, whether one was split, and the weight born"; that mark is now "a count of splits".
--- How many fewer pieces a fold leaves, the index of a movement of a slip, and a weight asked for.
+-- "The answer carries the number of pieces moved whole, whether one was split, and the weight born"; that mark is now
+-- "a count of splits". How many fewer pieces a fold leaves, the index of a movement of a slip, and a weight asked for.
 pub record Answer : Type 0 where
   pub whole : ℕ
   pub split : ℕ
@@ -108,8 +109,9 @@ unmoved checks told lent =
       stirs = λ b n. false;
     }
 
--- "Number 11 comes when the pieces afterwards would exceed the places." (By the four first rules that is "split or birth due, pieces = places": `table_full`.)
--- Only what counts checks it: a tip, which moves pieces whole, cannot want a place.
+-- "Number 11 comes when the pieces afterwards would exceed the places." (By the four first rules that is "split or
+-- birth due, pieces = places": `table_full`.) Only what counts checks it: a tip, which moves pieces whole, cannot want
+-- a place.
 abbrev pub place_checks : ℕ → ℕ → List Piece → List Check
 place_checks zero places ps = []
 place_checks (suc n) places ps = 11 if ltb places (length ps) ∷ []
@@ -131,7 +133,8 @@ posting_meaning p =
       stirs = λ b n. rule_at b.rules p.source == stirred_rule && picks n;
     }
 
--- A report counts the pieces that a test lets through, on a book and with the room that it is lent. What is asked of a book counts every piece.
+-- A report counts the pieces that a test lets through, on a book and with the room that it is lent. What is asked of a
+-- book counts every piece.
 abbrev pub report_meaning : (Piece → Bool) → Report → List ℕ → Meaning
 report_meaning test q room =
     unmoved

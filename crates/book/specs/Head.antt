@@ -1,6 +1,6 @@
 -- "Vessels, pieces, the head": a book, its head, what it is that a book adds up, and opening.
--- The head is the record `Head` of src/lib.rt. A book here is what head and table tell together, with a list of pieces; its
--- balances, the scale's among them, are sums of the pieces, so that they cannot be wrong.
+-- The head is the record `Head` of src/lib.rt. A book here is what head and table tell together, with a list of pieces;
+-- its balances, the scale's among them, are sums of the pieces, so that they cannot be wrong.
 -- Definitions only. Assumes nothing.
 use Rattle.std.specs.Prelude.{Bool, true, false, ◌&&◌, ◌||◌, cond, List, [], ◌∷◌, ◌++◌, ℕ, zero, suc, ◌+◌, ◌-◌, ◌≤◌, ◌<◌, leb, ltb, eqb, length, get_or, set, replicate, take, drop}
 use Rattle.std.specs.List.{list_all}
@@ -66,12 +66,14 @@ pub record Shiftable (h : Head) (s given d received : ℕ) : Type 0 where
   pub there : given ≤ balance_at h s
   pub room : balance_at (with_balance h s (balance_at h s - given)) d + received ≤ TOP
 
--- Every number of a head in memory is one of 32 bits. (So it is of any head that the code is given; the code's promises pass it on.)
+-- Every number of a head in memory is one of 32 bits. (So it is of any head that the code is given; the code's promises
+-- pass it on.)
 pub record Sized (h : Head) : Type 0 where
   pub light : (v : ℕ) → balance_at h v ≤ TOP
   pub tally : h.accepted ≤ TOP
 
--- A book: what the head says, and the pieces in order of receipt. Its rule is that with which it was opened; pieces are picked by those of the vessels.
+-- A book: what the head says, and the pieces in order of receipt. Its rule is that with which it was opened; pieces are
+-- picked by those of the vessels.
 pub record Book : Type 0 where
   pub rule : ℕ
   pub vessels : ℕ
@@ -114,7 +116,8 @@ abbrev pub all_of : List Bool → Bool
 all_of [] = true
 all_of (t ∷ ts) = t && all_of ts
 
--- "each piece has holder and origin below V, birth ≤ last minute, weight ≥ 1"; and "a book that adds up may have holder 64"
+-- "each piece has holder and origin below V, birth ≤ last minute, weight ≥ 1"; and "a book that adds up may have holder
+-- 64"
 abbrev pub lot_tests : ℕ → ℕ → Piece → List Bool
 lot_tests size last p = ltb p.origin size ∷ leb p.birth last ∷ leb 1 p.weight ∷ []
 
@@ -154,8 +157,8 @@ rules_fit size rules = list_all known_rule (take size rules) && all_zero (drop s
 abbrev pub balanced : Head → List Piece → List Bool
 balanced h ps = every (fits h.vessels h.last) ps ∷ same h.balances (balances_of h.vessels ps) ∷ eqb h.scale (held the_scale ps) ∷ []
 
--- "A book adds up if: rule is 0 to 3; V is 1 to 64; pieces ≤ places; .." That pieces ≤ accepted is asked no more: it "may now have more pieces than
--- accepted transfers".
+-- "A book adds up if: rule is 0 to 3; V is 1 to 64; pieces ≤ places; .." That pieces ≤ accepted is asked no more: it
+-- "may now have more pieces than accepted transfers".
 abbrev pub count_tests : Head → List ℕ → List Bool
 count_tests h t = leb h.rule last_rule ∷ leb 1 h.vessels ∷ leb h.vessels most_vessels ∷ leb h.pieces (places_of t) ∷ []
 
@@ -169,7 +172,8 @@ adds_up h t = all_of (book_tests h t)
 abbrev pub given_rules : ℕ → ℕ → List ℕ
 given_rules rule size = replicate size rule ++ replicate (most_vessels - size) 0
 
--- "Opening takes a rule and V; the fresh head has all other numbers 0." It checks 2, 3; a refusal gives a head of zeros.
+-- "Opening takes a rule and V; the fresh head has all other numbers 0." It checks 2, 3; a refusal gives a head of
+-- zeros.
 abbrev pub empty_head : ℕ → ℕ → Head
 empty_head rule size =
     record { rule = rule; vessels = size; pieces = 0; last = 0; accepted = 0; balances = replicate most_vessels 0; scale = 0; rules = given_rules rule size }

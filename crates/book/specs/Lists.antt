@@ -1,4 +1,5 @@
--- Lists of calls: each call gets the head that the last one returned and the table as that one left it, and nobody else writes the table meanwhile.
+-- Lists of calls: each call gets the head that the last one returned and the table as that one left it, and nobody else
+-- writes the table meanwhile.
 -- Definitions only. Assumes nothing.
 use Rattle.std.specs.Prelude.{Bool, true, false, ◌||◌, if◌then◌else◌, List, [], ◌∷◌, ℕ, ◌+◌, ◌-◌}
 use Rattle.refusal.specs.Numbers.{if_zero}

@@ -1,6 +1,6 @@
--- Calls on a head and a lent table, which is what the contracts of src/ promise: the number, the answer, the next head, and every
--- number of the table and of the room afterwards. "A refusal returns its number with all other answer numbers 0 and the head as
--- given; no lent memory changes."
+-- Calls on a head and a lent table, which is what the contracts of src/ promise: the number, the answer, the next head,
+-- and every number of the table and of the room afterwards. "A refusal returns its number with all other answer numbers
+-- 0 and the head as given; no lent memory changes."
 -- Definitions only. Assumes nothing.
 use Rattle.std.specs.Prelude.{◌≡◌, Bool, true, not, List, [], ◌∷◌, ◌++◌, ℕ, zero, suc, ltb, ◌≤◌, length}
 use Rattle.refusal.specs.Numbers.{Check, ◌if◌, first}
@@ -20,8 +20,8 @@ pub record Outcome : Type 0 where
   pub even : ℕ
   pub stirred : Bool
 
--- "a transfer 1, 4, then 5 to 11 (21 straight after 8); reports 1, 4, 5, 12, 13. The first that applies is given." 22, a lift's, and 23, a tip's, come after 4;
--- the setting of a rule "checks 1, 4, 5, 2".
+-- "a transfer 1, 4, then 5 to 11 (21 straight after 8); reports 1, 4, 5, 12, 13. The first that applies is given." 22,
+-- a lift's, and 23, a tip's, come after 4; the setting of a rule "checks 1, 4, 5, 2".
 unfoldable pub book_checks : Head → List ℕ → List Check
 book_checks h t = 1 if ltb (length t) 4 ∷ 4 if not (adds_up h t) ∷ []
 
@@ -41,7 +41,8 @@ outcome h t m (suc n) =
 unfoldable pub call_on : Head → List ℕ → Call → Outcome
 call_on h t c = outcome h t (meaning c) (number_of h t c)
 
--- A head and a table that are known to add up: they are past checks 1 and 4, and the head's numbers are ones of 32 bits.
+-- A head and a table that are known to add up: they are past checks 1 and 4, and the head's numbers are ones of 32
+-- bits.
 pub record Audited (h : Head) (t : List ℕ) : Type 0 where
   pub long : 4 ≤ length t
   pub book_adds_up : adds_up h t ≡ true

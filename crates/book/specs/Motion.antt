@@ -1,4 +1,5 @@
--- What calls look at, and what transfer, lift and tip do to a book: pieces are taken from a holder and handed to another.
+-- What calls look at, and what transfer, lift and tip do to a book: pieces are taken from a holder and handed to
+-- another.
 -- Definitions only. Assumes nothing.
 use Rattle.std.specs.Prelude.{List, ℕ, ◌+◌}
 use Rattle.table.specs.declared.Piece.{Piece}
@@ -27,8 +28,9 @@ of_book b = record { vessels = b.vessels; balance = λ v. held v b.pieces; last 
 abbrev pub of_head : Head → Standing
 of_head h = record { vessels = h.vessels; balance = balance_at h; last = h.last; accepted = h.accepted }
 
--- What is posted: a transfer, a lift, a tip. Its checks after 1 and 4; where from and where to, the birth of what is born, and the weight, on a book that looks so;
--- its minute; and how often it counts as a transfer. What counts takes weight from a vessel, by its rule; what does not moves pieces whole.
+-- What is posted: a transfer, a lift, a tip. Its checks after 1 and 4; where from and where to, the birth of what is
+-- born, and the weight, on a book that looks so; its minute; and how often it counts as a transfer. What counts takes
+-- weight from a vessel, by its rule; what does not moves pieces whole.
 pub record Terms : Type 0 where
   pub checks : Standing → List Check
   pub source : ℕ
@@ -47,7 +49,8 @@ motion p g =
       counts = p.counts;
     }
 
--- What a motion (the record `Motion` of src/lib.rt) takes from the book, picked by the rule of its source, and the pieces afterwards.
+-- What a motion (the record `Motion` of src/lib.rt) takes from the book, picked by the rule of its source, and the
+-- pieces afterwards.
 unfoldable pub takes : Book → Motion → Taken
 takes b m = taken (rule_at b.rules m.moves.source) m.moves b.pieces
 

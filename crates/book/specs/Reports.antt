@@ -1,5 +1,5 @@
--- "Reports": held, spread and whole. What each writes, and their checks. Every row is of vessels: "pieces on [the scale] are in no vessel, and no
--- vessel's report includes them".
+-- "Reports": held, spread and whole. What each writes, and their checks. Every row is of vessels: "pieces on [the
+-- scale] are in no vessel, and no vessel's report includes them".
 -- Definitions only. Assumes nothing.
 use Rattle.std.specs.Prelude.{◌&&◌, List, [], ◌∷◌, ◌++◌, ℕ, zero, suc, ◌*◌, leb, ltb, eqb, length, drop}
 use Rattle.table.specs.declared.Piece.{Piece}
@@ -16,7 +16,8 @@ from_origin v u h o b = eqb o u && eqb h v
 abbrev pub held_row : ℕ → ℕ → List Piece → List ℕ
 held_row size v ps = tab (λ u. sum (from_origin v u) ps) 0 size
 
--- "Spread: origin o and minutes from and to, both included; V numbers, the weight in each vessel born at o in that span."
+-- "Spread: origin o and minutes from and to, both included; V numbers, the weight in each vessel born at o in that
+-- span."
 abbrev pub born_within : ℕ → ℕ → ℕ → ℕ → Kind
 born_within u from to v h o b = eqb h v && (eqb o u && (leb from b && leb b to))
 
@@ -35,7 +36,8 @@ report_row size ps (Held v) = held_row size v ps
 report_row size ps (Spread u from to) = spread_row size u from to ps
 report_row size ps Whole = rows size 0 size ps
 
--- Checks 5, 12, 13, as they apply: of the number of vessels and the length of the room. A report's checks are of the book; these look at its vessels alone.
+-- Checks 5, 12, 13, as they apply: of the number of vessels and the length of the room. A report's checks are of the
+-- book; these look at its vessels alone.
 unfoldable pub asked_checks : ℕ → ℕ → Report → List Check
 asked_checks size room (Held v) = 5 if leb size v ∷ 13 if ltb room size ∷ []
 asked_checks size room (Spread u from to) = 5 if leb size u ∷ 12 if ltb to from ∷ 13 if ltb room size ∷ []

@@ -1,6 +1,6 @@
--- "Lift and tip": their checks, and the motions that they are. "Lift takes weight from s onto the scale, tip empties the whole scale into d."
--- A scale is told by its number. A book has one, `the_scale`, and every lift and tip is of that; what "a second, empty scale" would do is said with
--- another number.
+-- "Lift and tip": their checks, and the motions that they are. "Lift takes weight from s onto the scale, tip empties
+-- the whole scale into d." A scale is told by its number. A book has one, `the_scale`, and every lift and tip is of
+-- that; what "a second, empty scale" would do is said with another number.
 -- Definitions only. Assumes nothing.
 use Rattle.std.specs.Prelude.{List, [], ◌∷◌, ℕ, ◌+◌, ◌-◌, leb, ltb, eqb}
 use Rattle.refusal.specs.Numbers.{TOP, Check, ◌if◌}
@@ -16,16 +16,16 @@ lift_of s t q age = record { source = s; minute = t; weight = q; age = age }
 abbrev pub tip_of : ℕ → ℕ → Tip
 tip_of d t = record { destination = d; minute = t }
 
--- "A transfer is divided": into this lift and this tip. `second_scale` (proofs/SecondScale.antt) shows that it leaves what they leave, whatever lies on the
--- book's own scale, and `succession` that these can be calls where nothing does.
+-- "A transfer is divided": into this lift and this tip. `second_scale` (proofs/SecondScale.antt) shows that it leaves
+-- what they leave, whatever lies on the book's own scale, and `succession` that these can be calls where nothing does.
 abbrev pub lift_part : Transfer → Lift
 lift_part x = lift_of x.source x.minute x.weight x.age
 
 abbrev pub tip_part : Transfer → Tip
 tip_part x = tip_of x.destination x.minute
 
--- "Lift checks 1, 4, 5, 7, 8, 21, 10, 11", and "22 'scale loaded'", which "is left for lift alone", after 4. The scale is bare then, so that it
--- has room for any weight.
+-- "Lift checks 1, 4, 5, 7, 8, 21, 10, 11", and "22 'scale loaded'", which "is left for lift alone", after 4. The scale
+-- is bare then, so that it has room for any weight.
 unfoldable pub lift_checks : ℕ → Standing → Lift → List Check
 lift_checks scale g x =
     22 if ltb 0 (g.balance scale)

@@ -13,7 +13,8 @@ setting_of v rule = record { vessel = v; rule = rule }
 unfoldable pub setting_checks : ℕ → Setting → List Check
 setting_checks size s = 5 if leb size s.vessel ∷ 2 if not (known_rule s.rule) ∷ []
 
--- The vessel has that rule, and nothing else changes: neither the book's rule nor its last minute, its count or its pieces.
+-- The vessel has that rule, and nothing else changes: neither the book's rule nor its last minute, its count or its
+-- pieces.
 abbrev pub with_rule : Book → Setting → Book
 with_rule b s = record b { rules = set b.rules s.vessel s.rule }
 

@@ -32,7 +32,8 @@ rest_checks g x =
     ∷ 10 if eqb g.accepted TOP
     ∷ []
 
--- Checks 5 to 10, with 21 straight after 8. What is on the scale plays no part: 9 looks at the balance of the destination alone.
+-- Checks 5 to 10, with 21 straight after 8. What is on the scale plays no part: 9 looks at the balance of the
+-- destination alone.
 unfoldable pub transfer_checks : Standing → Transfer → List Check
 transfer_checks g x = vessel_checks g x ++ rest_checks g x
 

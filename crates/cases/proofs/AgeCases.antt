@@ -1,5 +1,6 @@
--- What ages do under rules 2 and 3, where births no longer follow the order of receipt (`aged`); and births of one vessel at different minutes, with ages that
--- bring them to the same minute, are one entry of the weigh book (`one_entry`).
+-- What ages do under rules 2 and 3, where births no longer follow the order of receipt (`aged`); and births of one
+-- vessel at different minutes, with ages that bring them to the same minute, are one entry of the weigh book
+-- (`one_entry`).
 -- Assumes nothing.
 use Rattle.std.proofs.Common.{◌≡◌, refl, List, [], ◌∷◌, map}
 use Rattle.table.specs.Table.{pieces_of, flat, places_in}

@@ -1,5 +1,5 @@
--- Beside a loaded scale, on small cases: a tip brings the load in behind (`tip_behind`), no vessel's report has it (`left_out`), and what waits on the scale
--- comes back behind what was received meanwhile (`waited`).
+-- Beside a loaded scale, on small cases: a tip brings the load in behind (`tip_behind`), no vessel's report has it
+-- (`left_out`), and what waits on the scale comes back behind what was received meanwhile (`waited`).
 -- Assumes nothing.
 use Rattle.std.proofs.Common.{◌≡◌, refl, List, [], ◌∷◌, ◌++◌, map, ℕ, take, replicate}
 use Rattle.table.specs.Table.{pieces_of, flat, places_in}
@@ -52,8 +52,8 @@ pub left_out : (map reported (Held 0 ∷ Spread 2 0 9 ∷ Whole ∷ []) ≡ vess
 unfolding call_on number_of book_checks adds_up rules_fit all_zero every same balances_of tab places_in pieces_of flat asked_checks rows
 left_out = (refl, refl)
 
--- What waits on the scale: part of two lots of vessel 0, which gives and receives meanwhile, gets it back behind what it received, and gives by that.
--- (Had the tip left it where it lay, rules 0 and 1 would pick otherwise.)
+-- What waits on the scale: part of two lots of vessel 0, which gives and receives meanwhile, gets it back behind what
+-- it received, and gives by that. (Had the tip left it where it lay, rules 0 and 1 would pick otherwise.)
 abbrev waiting : List Call
 waiting =
     post (transfer_of 1 0 1 4 0)

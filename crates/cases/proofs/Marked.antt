@@ -1,5 +1,5 @@
--- K1 to K10, the marked cases of document 01, with age 0: one table over the definitions that the contracts cite, and one theorem.
--- K8 speaks of every book and every rule: `even_law` is that law.
+-- K1 to K10, the marked cases of document 01, with age 0: one table over the definitions that the contracts cite, and
+-- one theorem. K8 speaks of every book and every rule: `even_law` is that law.
 -- Assumes nothing.
 use Rattle.std.proofs.Common.{◌≡◌, refl, List, [], ◌∷◌, ◌++◌, map, ℕ, take}
 use Rattle.table.specs.Pieces.{held}
@@ -35,8 +35,8 @@ pub record Named : Type 0 where
   pub name : Name
   pub is : Case
 
--- What is looked at: the pieces and the even count, alone or with the numbers of the head; the births at some vessels and minutes; the
--- balances of the head and the weights of the weigh book; the numbers answered; the even count.
+-- What is looked at: the pieces and the even count, alone or with the numbers of the head; the births at some vessels
+-- and minutes; the balances of the head and the weights of the weigh book; the numbers answered; the even count.
 abbrev weigh_book : Journal → WeighBook
 weigh_book r = feed (blank 3) (answered r.log)
 

@@ -1,6 +1,7 @@
--- RULES THAT CHANGE AND MIX, on small cases: parts of the same lots, each taken under another rule of their vessel (`parts`); three vessels with a rule each
--- beside a book with a fourth (`mixture`); a rule set while weight waits on the scale, which a tip brings in as it lies (`weighed`); and settings that are
--- refused (`refused`). In each of the first three the pieces would be others if any setting that is accepted were left out, or a pick went by the rule of
+-- RULES THAT CHANGE AND MIX, on small cases: parts of the same lots, each taken under another rule of their vessel
+-- (`parts`); three vessels with a rule each beside a book with a fourth (`mixture`); a rule set while weight waits on
+-- the scale, which a tip brings in as it lies (`weighed`); and settings that are refused (`refused`). In each of the
+-- first three the pieces would be others if any setting that is accepted were left out, or a pick went by the rule of
 -- its destination or of the book.
 -- Assumes nothing.
 use Rattle.std.proofs.Common.{◌≡◌, refl, List, [], ◌∷◌, ◌++◌, map, ℕ, take}

@@ -1,4 +1,5 @@
--- The six movements, each as a lift and a tip, leave the pieces that they leave as transfers (`divided`), and what else lifts and tips leave, on small cases.
+-- The six movements, each as a lift and a tip, leave the pieces that they leave as transfers (`divided`), and what else
+-- lifts and tips leave, on small cases.
 -- Assumes nothing.
 use Rattle.std.proofs.Common.{◌≡◌, refl, List, [], ◌∷◌, map, ℕ}
 use Rattle.table.specs.Table.{pieces_of, flat, places_in}
@@ -30,11 +31,13 @@ cases =
     ∷ called 0 (both six) pieces (0 ∷ 2 ∷ 3 ∷ 2 ∷ 2 ∷ 1 ∷ 5 ∷ 4 ∷ 1 ∷ 1 ∷ 1 ∷ 2 ∷ 0 ∷ 1 ∷ 1 ∷ 1 ∷ 2 ∷ [])
     ∷ called 1 (both six) pieces (0 ∷ 1 ∷ 1 ∷ 2 ∷ 2 ∷ 1 ∷ 1 ∷ 1 ∷ 2 ∷ 2 ∷ 3 ∷ 2 ∷ 2 ∷ 1 ∷ 5 ∷ 1 ∷ 1 ∷ 1 ∷ 5 ∷ 2 ∷ 0 ∷ 1 ∷ 5 ∷ 1 ∷ 0 ∷ [])
     ∷ called 3 (both six) pieces (0 ∷ 1 ∷ 1 ∷ 2 ∷ 2 ∷ 2 ∷ 3 ∷ 2 ∷ 2 ∷ 1 ∷ 1 ∷ 1 ∷ 2 ∷ 1 ∷ 5 ∷ 1 ∷ 1 ∷ 1 ∷ 5 ∷ 2 ∷ 0 ∷ 1 ∷ 5 ∷ 1 ∷ 0 ∷ [])
-    -- a lift: born at its source, on the scale; then another lift is refused with 22 and a transfer is not, and after the tip another tip with 23
+    -- a lift: born at its source, on the scale; then another lift is refused with 22 and a transfer is not, and after
+    -- the tip another tip with 23
     ∷ called 0 (lift (lift_of 1 5 3 2) ∷ []) held_up (3 ∷ 5 ∷ 1 ∷ 64 ∷ 1 ∷ 3 ∷ 3 ∷ 0 ∷ [])
     ∷ called 0 (tip (tip_of 0 5) ∷ lift (lift_of 1 5 3 2) ∷ lift (lift_of 9 0 0 0) ∷ post (transfer_of 1 2 5 1 0) ∷ tip (tip_of 2 4) ∷ tip (tip_of 2 6) ∷ tip (tip_of 2 6) ∷ []) answers
     (23 ∷ 0 ∷ 22 ∷ 0 ∷ 8 ∷ 0 ∷ 23 ∷ [])
-    -- back to where it came from: the first lot ends behind the second, and the tip sets the last minute and is not counted
+    -- back to where it came from: the first lot ends behind the second, and the tip sets the last minute and is not
+    -- counted
     ∷ called 0 (post (transfer_of 0 1 1 2 0) ∷ post (transfer_of 2 1 2 3 0) ∷ lift (lift_of 1 3 2 0) ∷ tip (tip_of 1 7) ∷ []) held_up (0 ∷ 7 ∷ 3 ∷ 1 ∷ 2 ∷ 2 ∷ 3 ∷ 1 ∷ 0 ∷ 1 ∷ 2 ∷ 1 ∷ [])
     ∷ []
 

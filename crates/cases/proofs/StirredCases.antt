@@ -1,7 +1,9 @@
--- STIRRED VESSELS on small cases, which were worked by another program: parts given on into another stirred vessel (`onward`), a lift of a stirred vessel, its
--- tip and a transfer beside it (`lifted`), rule 4 before and after another rule (`changed`), a table with exactly the places that the parts need, where the book
--- has more pieces than accepted transfers afterwards (`filled`), and one with a place less (`beyond`), weights near the largest (`heavy`); and how many pieces
--- go whole, how many are split and what is born, for weights below the balance, at it and above. And which lists use rule 4 (`stirred_lists`) or set it.
+-- STIRRED VESSELS on small cases, which were worked by another program: parts given on into another stirred vessel
+-- (`onward`), a lift of a stirred vessel, its tip and a transfer beside it (`lifted`), rule 4 before and after another
+-- rule (`changed`), a table with exactly the places that the parts need, where the book has more pieces than accepted
+-- transfers afterwards (`filled`), and one with a place less (`beyond`), weights near the largest (`heavy`); and how
+-- many pieces go whole, how many are split and what is born, for weights below the balance, at it and above. And which
+-- lists use rule 4 (`stirred_lists`) or set it.
 -- Assumes nothing.
 use Rattle.std.proofs.Common.{◌≡◌, refl, Bool, true, false, List, [], ◌∷◌, ◌++◌, map, ℕ, replicate}
 use Rattle.sharing.specs.Sharing.{up_to, shares}
@@ -78,7 +80,8 @@ pub stirred_cases : map seen cases ≡ map (λ c. c.wanted) cases
 unfolding cases calls_on call_on number_of book_checks adds_up rules_fit all_zero every same balances_of tab places_in pieces_of flat opening transfer_checks lift_checks tip_checks setting_checks takes taken take_up_to precedes giving shares up_to
 stirred_cases = refl
 
--- Which lists use rule 4: a pick under it that is accepted, or refused for want of places, but none that is refused before, and no setting, tip or report.
+-- Which lists use rule 4: a pick under it that is accepted, or refused for want of places, but none that is refused
+-- before, and no setting, tip or report.
 abbrev used : List Call → Bool
 used cs = stirs (calls_on (opening 0 3).head lent cs).log
 

@@ -1,8 +1,9 @@
--- THE SAME UNDER ALL RULES. Who supplied which gram is the rules' doing, and nothing else is: of two books with as many vessels, opened under any rules, and
--- two lists that differ only in their settings of rules, the transfers, lifts and tips get the same numbers (`rules_alike`), and every vessel and the scale
--- then hold the same, with the same born at every vessel in every minute (`totals_alike`). Each where the tables have places enough and rule 4 is never
--- used, which can ask for any number of places: a transfer that finds none is refused.
--- The idea: the weigh book gives both, and it knows neither a rule nor a setting.
+-- THE SAME UNDER ALL RULES. Who supplied which gram is the rules' doing, and nothing else is: of two books with as many
+-- vessels, opened under any rules, and two lists that differ only in their settings of rules, the transfers, lifts and
+-- tips get the same numbers (`rules_alike`), and every vessel and the scale then hold the same, with the same born at
+-- every vessel in every minute (`totals_alike`). Each where the tables have places enough and rule 4 is never used,
+-- which can ask for any number of places: a transfer that finds none is refused. The idea: the weigh book gives both,
+-- and it knows neither a rule nor a setting.
 -- Assumes nothing.
 use Rattle.std.proofs.Common.{◌≡◌, refl, sym, ap, false, List, [], ◌∷◌, ℕ, ◌≤◌, length, ◌∙◌}
 use Rattle.table.specs.Pieces.{sum, born_at, held}
@@ -27,7 +28,8 @@ unset_feed [] w = refl
 unset_feed (set_rule s ∷ cs) w = unset_feed cs w
 unset_feed (c ∷ cs) w = unset_feed cs (weigh_step w c)
 
--- A table with a place for every transfer and lift of a list, refused ones counted, and with one at all if it has a tip; and rule 4 is never used.
+-- A table with a place for every transfer and lift of a list, refused ones counted, and with one at all if it has a
+-- tip; and rule 4 is never used.
 pub record Roomy (rule size : ℕ) (t : List ℕ) (cs : List Call) : Type 0 where
   pub unstirred : stirs (calls_on (opening rule size).head t cs).log ≡ false
   pub places : transfers cs ≤ places_of t

@@ -1,5 +1,6 @@
--- What walks beside the weigh book: a call that a sound book accepts moves both alike, and where a place is free the weigh book gives the call's number, unless
--- it picks by rule 4, which can want more places than one. Each kind of call has one clause of `walks`.
+-- What walks beside the weigh book: a call that a sound book accepts moves both alike, and where a place is free the
+-- weigh book gives the call's number, unless it picks by rule 4, which can want more places than one. Each kind of call
+-- has one clause of `walks`.
 -- Assumes nothing.
 use Rattle.std.proofs.Common.{◌≡◌, refl, sym, ap, subst, false, eqb, List, ℕ, suc, ◌+◌, ◌-◌, ◌≤◌, arith, length, ◌∙◌}
 use Rattle.std.proofs.lemmas.Bool.Decides.{nat_tests}
@@ -57,7 +58,8 @@ motion_beside b m w r = record {
 foretold : (len : ℕ) (b : Book) (w : WeighBook) (c : Call) → number len b c ≡ weigh_number w c → Foretells len b w c
 foretold len b w c e = record { same = λ ns. ap (λ n. listed c n ns) e; stays = λ n z. ap (λ m. if_zero m ((weighing c).next w) w) (sym e ∙ z) }
 
--- What is posted, with a place free: the number is that of its own checks, if it does not pick by rule 4, and the weigh book makes the same.
+-- What is posted, with a place free: the number is that of its own checks, if it does not pick by rule 4, and the weigh
+-- book makes the same.
 module _ (p : Terms) (ok : Proper p) (len : ℕ) (b : Book) (w : WeighBook) (r : Beside b w) where
   same_checks : of_checks p ok len b ≡ first (p.checks (of_weigh w))
   same_checks = ap (λ (g : Standing). first (p.checks g)) (standing b w r)

@@ -1,5 +1,5 @@
--- Demand 3: one claim about a whole list of calls, on the head of an accepted opening and a table of any length and content.
--- By induction over the list, with the book that head and table hold and the weigh book beside it.
+-- Demand 3: one claim about a whole list of calls, on the head of an accepted opening and a table of any length and
+-- content. By induction over the list, with the book that head and table hold and the weigh book beside it.
 -- Assumes nothing.
 use Rattle.std.proofs.Common.{◌≡◌, refl, ap, false, List, [], ◌∷◌, ℕ, zero, suc, ◌+◌, ◌≤◌, arith, length, ◌∙◌}
 use Rattle.table.specs.Table.{places_of, places_in}
@@ -100,7 +100,8 @@ module _ (rule size : ℕ) (e : (opening rule size).number ≡ 0) (t : List ℕ)
         book_adds_up = adds (length t) _ _ _ n.on n.sound;
       }
 
-  -- Where rule 4 is never used and there are places enough, the weigh book fed every call, the refused ones too, is what it is fed the accepted ones.
+  -- Where rule 4 is never used and there are places enough, the weigh book fed every call, the refused ones too, is
+  -- what it is fed the accepted ones.
   pub fed_all : stirs journal.log ≡ false → transfers cs ≤ places_of t → (1 ≤ tips cs → 4 ≤ length t) → feed (blank size) (answered journal.log) ≡ feed (blank size) cs
   unfolding places_in
   fed_all s h q =

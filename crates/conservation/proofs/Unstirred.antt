@@ -1,5 +1,5 @@
--- LISTS THAT NEVER USE RULE 4. A list in which no accepted call sets it makes no pick under it (`first_rules`), from any opening on. The idea: opening gives
--- one of the four first rules, and only an accepted setting alters a vessel's.
+-- LISTS THAT NEVER USE RULE 4. A list in which no accepted call sets it makes no pick under it (`first_rules`), from
+-- any opening on. The idea: opening gives one of the four first rules, and only an accepted setting alters a vessel's.
 -- Assumes nothing.
 use Rattle.std.proofs.Common.{◌≡◌, refl, Bool, true, false, List, [], ◌∷◌, ℕ, zero, suc, arith, ne_eqb, length, ◌≢◌}
 use Rattle.std.specs.List.{list_all}
@@ -21,7 +21,8 @@ pub asks_none : (b : Book) → Unstirred b.rules → (c : Call) (n : ℕ) → (m
 asks_none b none (enter p) n = rw (ne_eqb _ _ (none (terms p).source)) refl
 asks_none b none c n = refl
 
--- A call makes a pick only where it is accepted or refused by 11: whatever else refuses it, 10 among them, comes before the pick.
+-- A call makes a pick only where it is accepted or refused by 11: whatever else refuses it, 10 among them, comes before
+-- the pick.
 pub stirred_picks : (b : Book) (c : Call) (n : ℕ) → n ≢ 0 → n ≢ 11 → (meaning c).stirs b n ≡ false
 stirred_picks b (enter p) n accepted full = grind (arith, nat_tests)
 stirred_picks b c n accepted full = refl

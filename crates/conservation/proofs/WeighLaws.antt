@@ -1,4 +1,5 @@
--- What a tip is to the weigh book: all the scale's weight goes to its destination, nothing is born, the minute is set and the count stays.
+-- What a tip is to the weigh book: all the scale's weight goes to its destination, nothing is born, the minute is set
+-- and the count stays.
 -- Assumes nothing.
 use Rattle.std.proofs.Common.{◌≡◌, ◌≢◌, ℕ, ◌+◌, arith, eqb}
 use Rattle.std.proofs.lemmas.Bool.Decides.{nat_tests}

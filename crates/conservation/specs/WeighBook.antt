@@ -1,4 +1,5 @@
--- "The weigh book": a plain machine with weights and births alone, and no pieces. It knows no rule. "The weigh book has [the scale] too."
+-- "The weigh book": a plain machine with weights and births alone, and no pieces. It knows no rule. "The weigh book has
+-- [the scale] too."
 -- Definitions only. Assumes nothing.
 use Rattle.std.specs.Prelude.{Bool, true, false, ◌&&◌, cond, List, [], ◌∷◌, ℕ, ◌+◌, ◌-◌, eqb}
 use Rattle.table.specs.Pieces.{only}
@@ -7,7 +8,8 @@ use Rattle.book.specs.declared.Motion.{Motion}
 use Rattle.book.specs.Motion.{Standing, Terms, motion}
 use Rattle.book.specs.Calls.{Call, enter, terms}
 
--- "weight W of each vessel, births B of each vessel and minute, last minute, accepted; all 0 at first"; the scale's weight is that of holder 64
+-- "weight W of each vessel, births B of each vessel and minute, last minute, accepted; all 0 at first"; the scale's
+-- weight is that of holder 64
 pub record WeighBook : Type 0 where
   pub vessels : ℕ
   pub weight : ℕ → ℕ
@@ -21,8 +23,8 @@ blank size = record { vessels = size; weight = λ v. 0; births = λ o t. 0; last
 abbrev pub of_weigh : WeighBook → Standing
 of_weigh w = record { vessels = w.vessels; balance = w.weight; last = w.last; accepted = w.accepted }
 
--- "born = q − W[s] if positive, else 0; W[s] falls by q − born; W[d] rises by q; B[s, t] rises by born; last = t; accepted rises by 1",
--- where "the weigh book enters births under t − age"
+-- "born = q − W[s] if positive, else 0; W[s] falls by q − born; W[d] rises by q; B[s, t] rises by born; last = t;
+-- accepted rises by 1", where "the weigh book enters births under t − age"
 abbrev pub weighed : WeighBook → Motion → WeighBook
 weighed w m =
     let x = m.moves in
@@ -35,14 +37,15 @@ weighed w m =
       accepted = w.accepted + m.counts;
     }
 
--- What a call is to the weigh book: its checks, the machine after it where none applies, and whether its number is forecast.
+-- What a call is to the weigh book: its checks, the machine after it where none applies, and whether its number is
+-- forecast.
 pub record Weighing : Type 0 where
   pub checks : WeighBook → List Check
   pub next : WeighBook → WeighBook
   pub forecasts : Bool
 
--- What is posted it checks and weighs as a book does, "with W as balance": "a lift is to it a transfer onto the scale, a tip moves all its
--- weight there to d, sets last and leaves accepted"
+-- What is posted it checks and weighs as a book does, "with W as balance": "a lift is to it a transfer onto the scale,
+-- a tip moves all its weight there to d, sets last and leaves accepted"
 abbrev pub terms_weighing : Terms → Weighing
 terms_weighing p = record { checks = λ w. p.checks (of_weigh w); next = λ w. weighed w (motion p (of_weigh w)); forecasts = true }
 

@@ -1,5 +1,5 @@
--- Calls read from six numbers: what was read is the call in the numbers where its age is none that is off; the scan for such ages by the calls that it has passed,
--- and the filling of the room by the calls before.
+-- Calls read from six numbers: what was read is the call in the numbers where its age is none that is off; the scan for
+-- such ages by the calls that it has passed, and the filling of the room by the calls before.
 -- Assumes nothing.
 use Rattle.std.proofs.Common.{◌≡◌, refl, sym, ap, ◌∙◌, true, false, cond, List, [], ◌∷◌, ◌++◌, append_assoc, append-nil, map, ℕ, zero, suc, ◌+◌, ◌≤◌, ◌<◌, add-one, arith, length, get_or, set, take, drop, length-set, take-append-drop, drop-drop, drop-cons, drop_of_length-le, take-suc-set, drop-set-lt}
 use Rattle.std.proofs.lemmas.Grind.{common_steps}

@@ -1,5 +1,5 @@
--- WHICH CALL SIX NUMBERS ARE, of all numbers: each kind with its arguments in their order, any other kind the whole report; and which number of a call is
--- an age. A definition that is altered together with code and proofs fails here.
+-- WHICH CALL SIX NUMBERS ARE, of all numbers: each kind with its arguments in their order, any other kind the whole
+-- report; and which number of a call is an age. A definition that is altered together with code and proofs fails here.
 -- Assumes nothing.
 use Rattle.std.proofs.Common.{◌≡◌, refl, false, List, [], ◌∷◌, ℕ, ◌≤◌, arith, ltb, ne_eqb}
 use Rattle.book.specs.declared.Report.TheVariants.{Held, Spread, Whole}

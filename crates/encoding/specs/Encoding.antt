@@ -1,7 +1,7 @@
 -- Calls in numbers. Six numbers are a call: its kind and its arguments.
--- Kind 0 is a transfer (source, destination, minute, weight, age), 1 the held report (vessel), 2 spread (origin, from, to), 4 a lift (source, minute,
--- weight, age), 5 a tip (destination, minute), 6 the setting of a rule (vessel, rule), 3 and any other the whole report. Numbers behind the arguments are
--- not looked at.
+-- Kind 0 is a transfer (source, destination, minute, weight, age), 1 the held report (vessel), 2 spread (origin, from,
+-- to), 4 a lift (source, minute, weight, age), 5 a tip (destination, minute), 6 the setting of a rule (vessel, rule), 3
+-- and any other the whole report. Numbers behind the arguments are not looked at.
 -- An age is a number of 16 bits: a list with a transfer or a lift of a larger one is refused whole, with 18.
 -- Definitions only. Assumes nothing.
 use Rattle.std.specs.Prelude.{◌≡◌, Bool, true, false, cond, ◌||◌, List, [], ◌∷◌, ◌++◌, ℕ, zero, suc, ◌/◌, min, eqb, ltb, length, get_or, drop, Result, Ok}
@@ -38,7 +38,8 @@ listed l =
 abbrev pub call_in : List ℕ → List ℕ → Calls.Call
 call_in l room = called (listed l) room
 
--- the age in the first six numbers, 0 where the call has none; whether it is above the largest, and whether one of the first n calls has such an age
+-- the age in the first six numbers, 0 where the call has none; whether it is above the largest, and whether one of the
+-- first n calls has such an age
 abbrev pub age_in : List ℕ → ℕ
 age_in l = let kind = get_or l 0 0 in cond (eqb kind 0) (get_or l 5 0) (cond (eqb kind 4) (get_or l 4 0) 0)
 

@@ -1,5 +1,5 @@
--- Which names a sheet may have, as one table and one theorem: the bytes at each end of the letters, what may stand behind them, and
--- names used twice. Assumes nothing.
+-- Which names a sheet may have, as one table and one theorem: the bytes at each end of the letters, what may stand
+-- behind them, and names used twice. Assumes nothing.
 use Rattle.std.proofs.Common.{ℕ, ◌≡◌, refl, Bool, true, false, List, [], ◌∷◌, map}
 use Rattle.book.specs.Head.{same, all_zero}
 use Rattle.fields.specs.Bytes.{exists}

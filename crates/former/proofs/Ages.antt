@@ -1,6 +1,6 @@
--- AGE 0 is the former meaning. A transfer of age 0 gives and leaves what the transfer without an age gave and left, on any table and any head with nothing on the
--- scale, whose rules were never set, with no more pieces than accepted transfers (`age_zero`); and so it is to the weigh book, whatever is on its scale
--- (`age_zero_weighed`).
+-- AGE 0 is the former meaning. A transfer of age 0 gives and leaves what the transfer without an age gave and left, on
+-- any table and any head with nothing on the scale, whose rules were never set, with no more pieces than accepted
+-- transfers (`age_zero`); and so it is to the weigh book, whatever is on its scale (`age_zero_weighed`).
 -- Assumes nothing.
 use Rattle.std.proofs.Common.{◌≡◌, refl, List, ℕ, zero, suc, ◌≤◌, add-one, arith, le-ltb, length, ◌∙◌}
 use Rattle.std.proofs.lemmas.Bool.Decides.{nat_tests}

@@ -1,5 +1,6 @@
--- A BOOK WITH NOTHING ON THE SCALE, whose rules were never set, is document 01's book: `bare_book` shows that document 01's added up where it does and has
--- no more pieces than accepted transfers. That one knew no scale, let a piece lie in a vessel only, and had no rules of vessels.
+-- A BOOK WITH NOTHING ON THE SCALE, whose rules were never set, is document 01's book: `bare_book` shows that document
+-- 01's added up where it does and has no more pieces than accepted transfers. That one knew no scale, let a piece lie
+-- in a vessel only, and had no rules of vessels.
 -- Assumes nothing.
 use Rattle.std.proofs.Common.{◌≡◌, refl, Bool, true, ◌&&◌, List, [], ◌∷◌, ℕ, ◌≤◌, ◌<◌, arith, leb, eqb}
 use Rattle.std.proofs.lemmas.Bool.Decides.{nat_tests}

@@ -1,8 +1,9 @@
--- A BOOK WHOSE RULES WERE NEVER SET IS THE FORMER BOOK. Where each vessel has the rule that opening gave it, a call gives and leaves what it did while a
--- book had one rule (`as_before`); and so does every list of calls in which no rule is set: its numbers, its count of even transfers, the head and the
--- table are the same (`never_set`), on any head with no more pieces than accepted transfers and any table. (With more, a book was off.)
--- The idea: what is picked differs only where the source is no vessel of the book, and there 5 comes first; and the four first rules give at most one piece
--- more for each transfer.
+-- A BOOK WHOSE RULES WERE NEVER SET IS THE FORMER BOOK. Where each vessel has the rule that opening gave it, a call
+-- gives and leaves what it did while a book had one rule (`as_before`); and so does every list of calls in which no
+-- rule is set: its numbers, its count of even transfers, the head and the table are the same (`never_set`), on any head
+-- with no more pieces than accepted transfers and any table. (With more, a book was off.) The idea: what is picked
+-- differs only where the source is no vessel of the book, and there 5 comes first; and the four first rules give at
+-- most one piece more for each transfer.
 -- Assumes nothing.
 use Rattle.std.proofs.Common.{◌≡◌, refl, sym, ap, Bool, true, false, cond, List, [], ◌∷◌, ℕ, zero, suc, ◌≤◌, ◌<◌, arith, length, ◌∙◌}
 use Rattle.std.proofs.lemmas.Bool.Decides.{nat_tests}
@@ -42,7 +43,8 @@ module _ (h : Head) (t : List ℕ) (unset : h.rules ≡ given_rules h.rule h.ves
   unfolding one_rule_number one_rule_checks
   former_split c = first_append (one_rule_checks h t) ((one_rule c).checks (length t) b) tt
 
-  -- A call is as before if, on a book that adds up, its own checks are, and what it leaves where none applies; and it tells the same where it is refused.
+  -- A call is as before if, on a book that adds up, its own checks are, and what it leaves where none applies; and it
+  -- tells the same where it is refused.
   module _ (c : Call) (same_checks : AddsUp h t → first ((meaning c).checks (length t) b) ≡ first ((one_rule c).checks (length t) b))
       (same_refused : (meaning c).refused ≡ (one_rule c).refused) (same_stirs : (meaning c).stirs ≡ (one_rule c).stirs)
       (same_left : AddsUp h t → first ((meaning c).checks (length t) b) ≡ 0 → outcome h t (meaning c) 0 ≡ outcome h t (one_rule c) 0) where

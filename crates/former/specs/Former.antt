@@ -1,7 +1,8 @@
--- A transfer of document 01, as it was before it had an age, there was a scale, and a vessel had a rule: source s, destination d, minute t, weight q.
--- There is no check 21, what is born has birth t, and a piece that lies in no vessel puts the book off. "Age 0 is the former meaning":
--- `age_zero` and `age_zero_weighed` (proofs/Ages.antt) show that a transfer of age 0 is this one, on a book with no weight on the scale whose rules
--- were never set, and to the weigh book.
+-- A transfer of document 01, as it was before it had an age, there was a scale, and a vessel had a rule: source s,
+-- destination d, minute t, weight q. There is no check 21, what is born has birth t, and a piece that lies in no vessel
+-- puts the book off. "Age 0 is the former meaning": `age_zero` and `age_zero_weighed` (proofs/Ages.antt) show that a
+-- transfer of age 0 is this one, on a book with no weight on the scale whose rules were never set, and to the weigh
+-- book.
 -- Definitions only. Assumes nothing.
 use Rattle.std.specs.Prelude.{Bool, ◌&&◌, not, List, [], ◌∷◌, ◌++◌, ℕ, suc, ◌+◌, ◌-◌, leb, ltb, eqb, length}
 use Rattle.table.specs.Pieces.{only}

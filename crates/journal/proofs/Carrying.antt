@@ -1,5 +1,5 @@
--- Calls carried out in turn: the loop by what is left, a book of which every call is refused, and that what is left is the journal of the calls, so that demand 3
--- holds of it.
+-- Calls carried out in turn: the loop by what is left, a book of which every call is refused, and that what is left is
+-- the journal of the calls, so that demand 3 holds of it.
 -- Assumes nothing.
 use Rattle.std.proofs.Common.{◌≡◌, refl, sym, ap, ◌∙◌, List, [], ◌∷◌, ◌++◌, append_assoc, append-nil, map, ℕ, ◌+◌, min, ◌≤◌, ◌<◌, add-one, arith, length, get_or, set, take, drop, replicate, length-set, length-take-le, take-append-drop, drop-drop, drop-cons, drop_of_length-le, take-suc-set, drop-set-lt, Result}
 use Rattle.refusal.specs.declared.Refusal.{Refusal}
@@ -24,7 +24,8 @@ use Rattle.journal.specs.Carried.{called, room_left, Makes, Carried, carried, le
 abbrev behind : List ℕ → Carried → Carried
 behind ns k = record { numbers = ns ++ k.numbers; head = k.head; table = k.table; room = k.room }
 
--- Where carrying out stands before call i: the book adds up, and the numbers so far and the calls that are left make the whole.
+-- Where carrying out stands before call i: the book adds up, and the numbers so far and the calls that are left make
+-- the whole.
 pub record Going (l : List Call) (h₀ : Head) (t₀ a₀ r₀ : List ℕ) (h : Head) (t a r : List ℕ) (i : ℕ) : Type 0 where
   pub audited : Audited h t
   pub left : behind (take i a) (carried (drop i l) h t r) ≡ carried l h₀ t₀ r₀

@@ -30,7 +30,8 @@ room_left (enter p) o room = room
 room_left (set_rule s) o room = room
 room_left (ask q r) o room = o.room
 
--- What any call promises on a book that adds up: its number and the next head, table and room after it, and that the book adds up again.
+-- What any call promises on a book that adds up: its number and the next head, table and room after it, and that the
+-- book adds up again.
 pub record Makes (c : Calls.Call) (h h' : Head) (t t' r r' : List ℕ) (z : Result (Unit {0}) Refusal) : Type 0 where
   pub number : outcome_number z ≡ (call_on h t c).number
   pub head : h' ≡ (call_on h t c).head
@@ -74,8 +75,8 @@ pub record MakesAll (calls : List Call) (h : Head) (t a r t' a' r' : List ℕ) (
 abbrev pub made : List Call → List ℕ → List Call
 made calls answers = take (min (length calls) (length answers)) calls
 
--- What carrying out a list of calls promises: with the rule and V that were given, the calls, the three lent slices before, and the answer and the slices
--- after.
+-- What carrying out a list of calls promises: with the rule and V that were given, the calls, the three lent slices
+-- before, and the answer and the slices after.
 pub record CarriesOut (rule size : ℕ) (calls : List Call) (t answers room : List ℕ) (r : Reply) (t' answers' room' : List ℕ) : Type 0 where
   -- a list for which no book is opened leaves all as it was
   pub refused : (first (open_checks rule size) ≡ 0 → ⊥) → (r ≡ not_opened (first (open_checks rule size))) × (t' ≡ t) × (answers' ≡ answers) × (room' ≡ room)

@@ -1,4 +1,5 @@
--- A fresh book in lanes: no piece lies in its lanes, so that a table is as it was lent; and what a transfer's checks tell of its motion.
+-- A fresh book in lanes: no piece lies in its lanes, so that a table is as it was lent; and what a transfer's checks
+-- tell of its motion.
 -- Assumes nothing.
 use Rattle.std.proofs.Common.{◌≡◌, refl, List, [], ℕ, ◌≤◌, ◌<◌, arith}
 use Rattle.refusal.specs.Numbers.{first}

@@ -1,5 +1,6 @@
--- A motion carried in lanes is the motion on head and table. Every vessel has the book's rule, so that lanes by that one rule take what the book takes; and pieces
--- never become fewer, so that the table as it would be, written anew after each motion, is the one lent with the pieces written at the end.
+-- A motion carried in lanes is the motion on head and table. Every vessel has the book's rule, so that lanes by that
+-- one rule take what the book takes; and pieces never become fewer, so that the table as it would be, written anew
+-- after each motion, is the one lent with the pieces written at the end.
 -- Assumes nothing.
 use Rattle.std.proofs.Common.{◌≡◌, refl, sym, ◌∙◌, Bool, true, false, cond, Option, List, ℕ, ◌*◌, ◌≤◌, arith, length, drop}
 use Rattle.std.proofs.lemmas.Bool.Decides.{nat_tests}

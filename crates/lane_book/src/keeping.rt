@@ -5,8 +5,8 @@ ghost use Rattle.lane_book.specs.InLanes.{InLanes, BetweenVessels};
 
 use book::{Head, Motion};
 use lanes::Lanes;
-use taking::Applied;
 use motions::keeping::Keeping;
+use taking::Applied;
 
 // The pieces of a book in lanes.
 #[derive(Drop)]

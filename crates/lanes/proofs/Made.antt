@@ -1,4 +1,5 @@
--- A move is made: once whole pieces have gone, what is left is split off the next piece, or born, or there is nothing left. Before it the log is closed, where it might have no room.
+-- A move is made: once whole pieces have gone, what is left is split off the next piece, or born, or there is nothing
+-- left. Before it the log is closed, where it might have no room.
 -- Assumes nothing.
 use Rattle.std.proofs.Common.{◌≡◌, refl, sym, ap, ◌∙◌, ◌≢◌, ℕ, ◌+◌, ◌-◌, ◌≤◌, ◌<◌, arith, length, set, take, length-set}
 use Rattle.std.proofs.lemmas.Bool.Decides.{nat_tests}

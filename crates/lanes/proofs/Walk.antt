@@ -1,5 +1,6 @@
--- A walk over a lane tells whether a move by it is full: one piece more comes of it, a split or a birth, just where something is still wanted once whole pieces
--- are taken (`left_over`). By induction over how many pieces may still go whole: what is picked is the first of the lane, and the other slots have the rest of it.
+-- A walk over a lane tells whether a move by it is full: one piece more comes of it, a split or a birth, just where
+-- something is still wanted once whole pieces are taken (`left_over`). By induction over how many pieces may still go
+-- whole: what is picked is the first of the lane, and the other slots have the rest of it.
 -- Assumes nothing.
 use Rattle.std.proofs.Common.{◌≡◌, refl, ap, ◌∙◌, ◌≢◌, Bool, true, false, not, cond, List, [], ◌∷◌, ◌++◌, ℕ, zero, suc, ◌+◌, ◌-◌, ◌≤◌, ◌<◌, min, arith, leb, ltb, eqb, length, eqb-true, le-ltb}
 use Rattle.std.proofs.lemmas.Bool.Decides.{nat_tests}

@@ -16,7 +16,8 @@ use Rattle.lanes.specs.Chains.{start, link}
 use Rattle.lanes.specs.Store.{most_notes, received, pieces_in, lane_of, Kept}
 use Rattle.lanes.specs.Walk.{remains, Goes}
 
--- Pieces can be moved from lane to lane: there is a place for a split or what is born, and the log has room for a note of every piece and one more.
+-- Pieces can be moved from lane to lane: there is a place for a split or what is born, and the log has room for a note
+-- of every piece and one more.
 pub record Going (rule : ℕ) (m : Move) (s : Store) : Type 0 where
   pub kept : Kept rule s
   pub source : m.source < most_lanes
@@ -35,7 +36,8 @@ pub record Gone (rule : ℕ) (m : Move) (s s' : Store) (far : Progress) : Type 0
   pub count : s'.count ≡ s.count
   pub few : far.whole ≤ most_places
 
--- The piece in slot x, the first of a lane, gives so much of its weight to holder d, in a new slot, and keeps the rest; it does.
+-- The piece in slot x, the first of a lane, gives so much of its weight to holder d, in a new slot, and keeps the rest;
+-- it does.
 pub record Splitting (rule d x weight : ℕ) (s : Store) : Type 0 where
   pub kept : Kept rule s
   pub used : x < s.count

@@ -1,5 +1,6 @@
-// The pieces of each holder in the order in which they are picked, and a log of their receipts: a move of pieces takes the time of those that it moves. What is promised is
-// said of the pieces in order of receipt; how memory holds them, none but this crate sees.
+// The pieces of each holder in the order in which they are picked, and a log of their receipts: a move of pieces takes
+// the time of those that it moves. What is promised is said of the pieces in order of receipt; how memory holds them,
+// none but this crate sees.
 #![tactic(auto)]
 
 ghost use Rattle.std.specs.Prelude.{◌≡◌, ◌≤◌, ◌<◌, ◌*◌, [], length};
@@ -28,8 +29,9 @@ const LINKS: usize = PLACES + LANES;
 // So many notes fit in the log.
 const NOTES: usize = 16384;
 
-// A slot holds one piece for good: pieces never become fewer. Each holder's slots lie in a lane in picking order, and the log tells the order of receipt: a
-// slot's last note is its place in it. A slot's key tells whether it goes before another. Where a slot may join a lane soon is a hint.
+// A slot holds one piece for good: pieces never become fewer. Each holder's slots lie in a lane in picking order, and
+// the log tells the order of receipt: a slot's last note is its place in it. A slot's key tells whether it goes before
+// another. Where a slot may join a lane soon is a hint.
 #[derive(Drop)]
 struct Store {
     pieces: [Piece; PLACES],
@@ -110,7 +112,8 @@ impl Lanes {
         self.store.left_over(m.source, m.weight) != 0
     }
 
-    // Moves the weight and says what was done, or answers `None` where the pieces afterwards would exceed the places, and moves nothing.
+    // Moves the weight and says what was done, or answers `None` where the pieces afterwards would exceed the places,
+    // and moves nothing.
     pub fn move_pieces(&mut self, places: usize, m: Move) -> Option<Applied>
         requires { Movable places m self.old }
         ensures { Moves places m self.old self.new result }

@@ -1,4 +1,5 @@
-// A move by lanes: whole pieces are handed over one after the other, and what is then still wanted is split off the next one or born.
+// A move by lanes: whole pieces are handed over one after the other, and what is then still wanted is split off the
+// next one or born.
 ghost use Rattle.std.specs.Prelude.{◌≡◌, ◌≢◌, ◌<◌, List, ℕ};
 ghost use Rattle.taking.specs.Stirring.{stirred_rule};
 ghost use Rattle.lanes.specs.Store.{Kept};
@@ -20,7 +21,8 @@ pub(crate) struct Progress {
 }
 
 impl Store {
-    // What would still be wanted once whole pieces are handed over. Nothing is moved: a move that is refused leaves all as it was.
+    // What would still be wanted once whole pieces are handed over. Nothing is moved: a move that is refused leaves all
+    // as it was.
     pub(crate) fn left_over(&self, s: u32, want: u32) -> u32
         requires { (s < most_lanes) × Leads (start s) self.now }
         ensures { (line : List ℕ) → Chain self.now.next (start s) line → result ≡ remains self.now.pieces want line }

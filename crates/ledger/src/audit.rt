@@ -29,7 +29,8 @@ impl Limits {
         p.origin < self.vessels && p.birth <= self.last && 1 <= p.weight
     }
 
-    // Whether the piece fits, and what is left of its holder's balance covers it. Which holders a book has is not asked: no other has anything left.
+    // Whether the piece fits, and what is left of its holder's balance covers it. Which holders a book has is not
+    // asked: no other has anything left.
     fn covers(self, p: Piece, rest: &[u32; HOLDERS]) -> bool
         ensures { result ≡ covers self.vessels self.last rest.now p }
     {

@@ -14,7 +14,8 @@ use book::{Head, Reply, SCALE, Setting};
 use refusal::Refusal;
 use taking::{AS_RECEIVED, STIRRED};
 
-// The rule by which a holder's pieces are picked: the scale has none of its own, and what lies there leaves it in the order it lies.
+// The rule by which a holder's pieces are picked: the scale has none of its own, and what lies there leaves it in the
+// order it lies.
 pub fn rule_at(head: &Head, holder: u32) -> u32
     ensures { result ≡ rule_at head.now.rules holder }
 {

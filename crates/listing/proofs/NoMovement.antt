@@ -1,5 +1,6 @@
--- A SHIFT THAT MOVED NOTHING, TO THE END. `no_movement_listed`: the listing of a sheet without movements is its first line, "vessels V rule R accepted 0 pieces 0
--- even 0" and a newline. `no_movement_whole`: so it is of the sheet that the writer makes of no numbers, whatever rule, vessels and names it accepts.
+-- A SHIFT THAT MOVED NOTHING, TO THE END. `no_movement_listed`: the listing of a sheet without movements is its first
+-- line, "vessels V rule R accepted 0 pieces 0 even 0" and a newline. `no_movement_whole`: so it is of the sheet that
+-- the writer makes of no numbers, whatever rule, vessels and names it accepts.
 -- Assumes nothing.
 use Rattle.std.proofs.Common.{ℕ, ◌≤◌, arith, ◌≡◌, refl, sym, ap, ◌∙◌, List, [], ◌∷◌, ◌++◌, append_assoc, append-nil, length}
 use Rattle.refusal.proofs.Numbers.{not_zero}

@@ -1,5 +1,5 @@
--- THE PUBLISHED LISTING (K1): the six movements, written as a sheet under rule 2, read, run and listed, are the five lines of document 01,
--- byte for byte; and the two other forms of a listing. Assumes nothing.
+-- THE PUBLISHED LISTING (K1): the six movements, written as a sheet under rule 2, read, run and listed, are the five
+-- lines of document 01, byte for byte; and the two other forms of a listing. Assumes nothing.
 use mathlib.Core.List.{flat_map}
 use Rattle.std.proofs.Common.{◌≡◌, refl, List, [], ◌∷◌, ◌++◌, ℕ, ◌*◌, replicate}
 use Rattle.table.specs.declared.Piece.{Piece}

@@ -1,5 +1,5 @@
--- THE LISTING OF A SHEET: a run refused by its sheet or by 1 prints only `refused N`, and every other the lines of its book. A run's
--- pieces lie within its table, so that there is room for every listing. Assumes nothing.
+-- THE LISTING OF A SHEET: a run refused by its sheet or by 1 prints only `refused N`, and every other the lines of its
+-- book. A run's pieces lie within its table, so that there is room for every listing. Assumes nothing.
 use Rattle.std.proofs.Common.{◌≡◌, refl, sym, List, ℕ, zero, suc, ◌*◌, ◌≤◌, arith, length, take, drop}
 use Rattle.std.proofs.Math.Seq.{take-append_seam}
 use Rattle.refusal.specs.Numbers.{if_zero}

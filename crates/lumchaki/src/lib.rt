@@ -19,6 +19,8 @@ use sheet::answer::{Movement, Reading};
 
 mod rules; // rules.rt: the rule of a vessel
 mod scale; // scale.rt: lift and tip
+#[cfg(test)]
+mod tests; // tests.rt: a contract spelled out again
 
 // Rule and count of vessels are two numbers in C, and stay two down to `ledger::opening`.
 #[unsafe(no_mangle)]
@@ -100,7 +102,8 @@ pub extern "C" fn lumchaki_movement(sheet: &[u8], index: u32) -> Movement
     sheet::movement(sheet, index)
 }
 
-// An exported function returns no reference: the name is the part of this length that starts at byte 24 + 8 × vessel of the sheet.
+// An exported function returns no reference: the name is the part of this length that starts at byte 24 + 8 × vessel of
+// the sheet.
 #[unsafe(no_mangle)]
 pub extern "C" fn lumchaki_name(sheet: &[u8], vessel: u32) -> usize
     ensures { result ≡ length (name_asked sheet.now vessel) }

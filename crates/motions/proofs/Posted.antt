@@ -1,5 +1,5 @@
--- The calls: what is answered to a posting is the call on head and table, and the book is known again. One law, for all that can be posted, and whatever keeps
--- the pieces.
+-- The calls: what is answered to a posting is the call on head and table, and the book is known again. One law, for all
+-- that can be posted, and whatever keeps the pieces.
 -- Assumes nothing.
 use Rattle.std.specs.Option.{ok_or}
 use Rattle.std.specs.Result.{IsErrAnd}

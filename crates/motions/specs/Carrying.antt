@@ -1,5 +1,5 @@
--- Carrying a motion: what it asks, and how the code makes the next head, where two balances change. proofs/Next.antt shows that this is the head of the
--- book that the motion leaves.
+-- Carrying a motion: what it asks, and how the code makes the next head, where two balances change. proofs/Next.antt
+-- shows that this is the head of the book that the motion leaves.
 -- Definitions only. Assumes nothing.
 use Rattle.std.specs.Prelude.{◌≢◌, ◌+◌, ◌-◌, ◌≤◌, ◌<◌, Option, None, Some}
 use Rattle.refusal.specs.Numbers.{TOP}
@@ -9,7 +9,8 @@ use Rattle.book.specs.declared.Head.{Head}
 use Rattle.book.specs.declared.Motion.{Motion}
 use Rattle.book.specs.Head.{most_holders, Shiftable, balance_at, shifted}
 
--- What carrying a motion asks, as the checks of a call see to it: two holders, room at the destination, and a count that is not full.
+-- What carrying a motion asks, as the checks of a call see to it: two holders, room at the destination, and a count
+-- that is not full.
 pub record Carriable (h : Head) (m : Motion) : Type 0 where
   pub source_in : m.moves.source < most_holders
   pub destination_in : m.moves.destination < most_holders

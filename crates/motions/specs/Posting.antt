@@ -31,7 +31,8 @@ pub record Tips (h : Head) (y : Tip) (t t' : List ℕ) (r : Reply) : Type 0 wher
   pub answer : r ≡ Memory.replied (call_on h t (tip y))
   pub table : t' ≡ (call_on h t (tip y)).table
 
--- What posting to a book that is known to add up promises: answer and table are those of the call, and the book is known again.
+-- What posting to a book that is known to add up promises: answer and table are those of the call, and the book is
+-- known again.
 pub record PostsKnown (v : Posting) (h h' : Head) (t t' : List ℕ) (r : Result Applied Refusal) : Type 0 where
   pub posts : Posts h (enter v) t t' (said h' r)
   pub audited : Audited h' t'

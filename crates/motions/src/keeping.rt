@@ -26,7 +26,8 @@ pub trait Keeping {
     // What carrying may do to the lent table.
     ghost leaves: { List ℕ → List ℕ → Type 0 };
 
-    // Moves the pieces of a motion and says what was done, or answers `None` where the pieces afterwards would exceed the places, and moves nothing.
+    // Moves the pieces of a motion and says what was done, or answers `None` where the pieces afterwards would exceed
+    // the places, and moves nothing.
     fn carry(&mut self, head: &Head, table: &mut [u32], m: Motion) -> Option<Applied>
         requires known { Audited head.now (written self.old table.old) }
         requires carriable { Carriable head.now m }

@@ -1,4 +1,5 @@
-// What can be posted to a book in memory, whatever keeps its pieces: a transfer, a lift and a tip, each by its checks and its motion, and the next head.
+// What can be posted to a book in memory, whatever keeps its pieces: a transfer, a lift and a tip, each by its checks
+// and its motion, and the next head.
 #![tactic(auto)]
 
 ghost use Rattle.std.specs.Prelude.{◌≡◌, ◌≤◌};

@@ -1,5 +1,5 @@
--- A plan is applied: what is lifted of the pieces and what stays of them, settled, is what is handed over. Lifting keeps the n places
--- and what lies behind them.
+-- A plan is applied: what is lifted of the pieces and what stays of them, settled, is what is handed over. Lifting
+-- keeps the n places and what lies behind them.
 -- Assumes nothing.
 use Rattle.std.proofs.Common.{◌≡◌, refl, ap, ◌∙◌, List, [], ◌∷◌, append_assoc, ℕ, ◌+◌, ◌*◌, ◌≤◌, arith, length, drop, length-append, length-set}
 use mathlib.Core.List.{map-append}

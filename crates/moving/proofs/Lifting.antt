@@ -1,5 +1,5 @@
--- The pieces that go whole are lifted, one after the other: c keys of `gone` are behind, and what the rest of them vacates and picks
--- completes what all of them do. What lies behind the pieces stays.
+-- The pieces that go whole are lifted, one after the other: c keys of `gone` are behind, and what the rest of them
+-- vacates and picks completes what all of them do. What lies behind the pieces stays.
 -- Assumes nothing.
 use Rattle.std.proofs.Common.{◌≡◌, sym, ap, ◌∙◌, List, [], ◌∷◌, ◌++◌, append_assoc, append-nil, map, ℕ, suc, ◌+◌, ◌*◌, ◌≤◌, ◌<◌, add-one, arith, length, get_or, drop, length-take, drop_of_length-le, drop-cons, get_or-take}
 use Rattle.table.specs.Table.{pieces_of, piece_in}

@@ -1,5 +1,5 @@
--- One piece after the other goes: the order and its plan give what `singly` says, so the plan tells whether there is room, and applying it gives
--- the answer and the table.
+-- One piece after the other goes: the order and its plan give what `singly` says, so the plan tells whether there is
+-- room, and applying it gives the answer and the table.
 -- Assumes nothing.
 use Rattle.std.proofs.Common.{◌≡◌, refl, sym, ap, ◌∙◌, Bool, true, false, cond, None, Some, List, [], ◌∷◌, ℕ, suc, ◌+◌, ◌-◌, ◌*◌, ◌≤◌, min, arith, leb, ltb, eqb, length, get_or, drop, drop_of_length-le, drop-cons, ltb-false}
 use Rattle.std.proofs.lemmas.Bool.Decides.{nat_tests}

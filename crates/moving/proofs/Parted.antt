@@ -1,5 +1,6 @@
--- The pieces are parted by what each gives. The first i have been; what `giving` leaves of the others completes what it leaves of all, in the table and among
--- the lifted. The places from i on are as they were, since no more pieces stay than were seen.
+-- The pieces are parted by what each gives. The first i have been; what `giving` leaves of the others completes what it
+-- leaves of all, in the table and among the lifted. The places from i on are as they were, since no more pieces stay
+-- than were seen.
 -- Assumes nothing.
 use Rattle.std.proofs.Common.{◌≡◌, ◌∙◌, ◌≢◌, List, [], ◌∷◌, ◌++◌, append_assoc, append-nil, map, ℕ, suc, ◌+◌, ◌-◌, ◌*◌, ◌≤◌, ◌<◌, add-one, arith, get_or, drop, drop_of_length-le, drop-cons, drop-set-lt}
 use Rattle.std.proofs.lemmas.Bool.Decides.{nat_tests}

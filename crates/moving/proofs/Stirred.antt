@@ -1,5 +1,5 @@
--- A stirred source whole: the gifts tell how many are split, so whether there is room, and the parted pieces with what they give behind them are what is handed over.
--- No piece gives more than it has.
+-- A stirred source whole: the gifts tell how many are split, so whether there is room, and the parted pieces with what
+-- they give behind them are what is handed over. No piece gives more than it has.
 -- Assumes nothing.
 use Rattle.std.proofs.Common.{◌≡◌, refl, ap, ◌∙◌, ◌≢◌, true, false, Option, None, Some, List, [], ◌∷◌, ◌++◌, append-nil, map, ℕ, zero, suc, ◌+◌, ◌-◌, ◌*◌, ◌≤◌, ◌<◌, arith, length, take, length-append, lt-ltb, le-ltb}
 use Rattle.std.proofs.lemmas.Bool.Decides.{nat_tests}
@@ -107,7 +107,8 @@ module _ {n places T : ℕ} {m : Move} {t : List ℕ} (ready : Ready n places m 
             table = et ∙ rw (free, size, put, stands, goes, sum, behind) refl;
           }
 
--- By the source's rule: a stirred source that has more than is wanted gives from every piece, and any other gives one piece after the other.
+-- By the source's rule: a stirred source that has more than is wanted gives from every piece, and any other gives one
+-- piece after the other.
 module _ {places rule T : ℕ} {m : Move} (ps : List Piece) (all : T ≡ held m.source ps) {t t' : List ℕ} {o : Option Applied} where
   pub by_rule : rule ≢ stirred_rule → Moves places m (singly rule m ps) t t' o → Moves places m (taken rule m ps) t t' o
   by_rule first moves = rw (taken_singly rule m ps first) moves

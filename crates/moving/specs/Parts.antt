@@ -1,5 +1,5 @@
--- What the parts of the code promise each other: w is what a move takes out of a table, t is the table and l the memory for lifted
--- pieces; with a prime, afterwards.
+-- What the parts of the code promise each other: w is what a move takes out of a table, t is the table and l the memory
+-- for lifted pieces; with a prime, afterwards.
 -- Definitions only. Assumes nothing.
 use Rattle.std.specs.Prelude.{◌≡◌, cond, List, ◌++◌, map, ℕ, ◌+◌, ◌-◌, ◌*◌, ◌≤◌, min, ltb, length, get_or, take, drop}
 use Rattle.table.specs.declared.Piece.{Piece}
@@ -57,7 +57,8 @@ pub record Splits (w : Withdrawal) (t l t' l' : List ℕ) : Type 0 where
   pub stands : t' ≡ put_in w.count (place w w.plan.whole) (of_weight ((nth w w.plan.whole t).weight - w.plan.left) (nth w w.plan.whole t)) t
   pub goes : l' ≡ put_in lifted_places w.plan.whole (sent w (of_weight w.plan.left (nth w w.plan.whole t))) l
 
--- What follows the whole ones is put behind them: the part of a split, what is born, or nothing. Then g pieces are lifted.
+-- What follows the whole ones is put behind them: the part of a split, what is born, or nothing. Then g pieces are
+-- lifted.
 pub record Follows (w : Withdrawal) (t l t' l' : List ℕ) (g : ℕ) : Type 0 where
   pub stands : t' ≡ over w.count (reduced w.plan.left (next w) (pieces w t)) t
   pub goes : pieces_of g l' ≡ pieces_of w.plan.whole l

@@ -10,8 +10,8 @@ use picking::selection::Order;
 use table::{Piece, closing};
 use taking::{Applied, Move};
 
-// What a move takes out of a table of so many pieces: those that the plan takes of the order. The table and the memory for lifted pieces are not
-// in it: each step writes both, and asks that they have room.
+// What a move takes out of a table of so many pieces: those that the plan takes of the order. The table and the memory
+// for lifted pieces are not in it: each step writes both, and asks that they have room.
 #[derive(Clone, Copy)]
 pub struct Withdrawal<'a> {
     pub count: usize,
@@ -21,7 +21,8 @@ pub struct Withdrawal<'a> {
 }
 
 impl<'a> Withdrawal<'a> {
-    // The piece that is picked as number c is copied to place c of the lifted, with its new holder, and its place is vacant.
+    // The piece that is picked as number c is copied to place c of the lifted, with its new holder, and its place is
+    // vacant.
     fn lift_one(self, table: &mut [u32], lifted: &mut [u32; LIFTED], c: usize)
         requires { Room self table.old × (c < self.plan.whole) }
         ensures { LiftsOne self.entry c table.old lifted.old table.new lifted.new }
@@ -43,7 +44,8 @@ impl<'a> Withdrawal<'a> {
         }
     }
 
-    // The piece that follows those that go whole is split: the part still wanted is put behind the lifted, with its new holder.
+    // The piece that follows those that go whole is split: the part still wanted is put behind the lifted, with its new
+    // holder.
     fn split_next(self, table: &mut [u32], lifted: &mut [u32; LIFTED])
         requires { Room self table.old × (self.plan.whole < count_of self.order) }
         ensures { Splits self.entry table.old lifted.old table.new lifted.new }
@@ -61,7 +63,8 @@ impl<'a> Withdrawal<'a> {
         table::put_if_there(table, self.count, i, p.of_weight(rest));
     }
 
-    // What follows the whole ones is lifted too: the part of a split, what is born, or nothing. The answer is the count of the lifted.
+    // What follows the whole ones is lifted too: the part of a split, what is born, or nothing. The answer is the count
+    // of the lifted.
     fn put_remainder(self, table: &mut [u32], lifted: &mut [u32; LIFTED]) -> usize
         requires { Room self table.old }
         ensures { Follows self.entry table.old lifted.old table.new lifted.new result }
@@ -93,7 +96,8 @@ impl<'a> Withdrawal<'a> {
         self.put_remainder(table, lifted)
     }
 
-    // The answer where the plan was applied and leaves so many pieces: with a key left, what was still wanted is 1 split; without, it is born.
+    // The answer where the plan was applied and leaves so many pieces: with a key left, what was still wanted is 1
+    // split; without, it is born.
     fn answer(self, count: usize) -> Applied
         requires { (self.plan.whole ≤ count_of self.order) × (count_of self.order ≤ most_places) }
         ensures { result ≡ plan_answer self.entry count }

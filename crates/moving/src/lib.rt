@@ -1,5 +1,6 @@
-// The pieces part of a transfer, in a constant number of passes over the table: what the source's rule takes is found first, and only if there is
-// room for what it leaves is anything written. A stirred source gives from all its pieces, any other from one after the other.
+// The pieces part of a transfer, in a constant number of passes over the table: what the source's rule takes is found
+// first, and only if there is room for what it leaves is anything written. A stirred source gives from all its pieces,
+// any other from one after the other.
 #![tactic(auto)]
 
 ghost use Rattle.std.specs.Prelude.{◌≡◌};
@@ -32,8 +33,8 @@ pub struct Holding {
     pub balance: u32,
 }
 
-// Memory to work in, for keys or gifts, to sort keys, and for lifted pieces. What it holds is no part of its value, so that no contract can speak of it, and none
-// has to.
+// Memory to work in, for keys or gifts, to sort keys, and for lifted pieces. What it holds is no part of its value, so
+// that no contract can speak of it, and none has to.
 #[derive(Drop)]
 pub struct Workspace {
     keys: [u64; KEYS],
@@ -57,8 +58,8 @@ impl Workspace {
     }
 }
 
-// Moves the weight from source to destination as the source gives, and says what was done. If the pieces afterwards would exceed the
-// places, the table is not written and the answer is `None`.
+// Moves the weight from source to destination as the source gives, and says what was done. If the pieces afterwards
+// would exceed the places, the table is not written and the answer is `None`.
 pub fn move_pieces(
     table: &mut [u32],
     n: usize,

@@ -1,4 +1,5 @@
-// A stirred source: each of its pieces gives a share. What each gives is found first, and the table is written only if there is room for the splits.
+// A stirred source: each of its pieces gives a share. What each gives is found first, and the table is written only if
+// there is room for the splits.
 ghost use Rattle.std.specs.Prelude.{◌≡◌, ◌≤◌, length};
 ghost use Rattle.table.specs.Table.{most_places, pieces_of};
 ghost use Rattle.taking.specs.Stirring.{stirred};
@@ -18,8 +19,8 @@ pub struct Parted {
     pub go: usize,
 }
 
-// What each piece gives is put down, 0 for a piece of another holder: what falls to the source's pieces up to it, less what fell to those before it.
-// So there is one division for each. The answer is how many pieces are split.
+// What each piece gives is put down, 0 for a piece of another holder: what falls to the source's pieces up to it, less
+// what fell to those before it. So there is one division for each. The answer is how many pieces are split.
 fn share_out(pieces: &Pieces, m: Move, balance: u32, noted: &mut [u64]) -> usize
     requires { (length pieces.now ≤ most_places) × (length noted.old ≡ most_places) × Stirrable m balance pieces.now }
     ensures { SharesOut m pieces.now noted.new result }
@@ -44,7 +45,8 @@ fn share_out(pieces: &Pieces, m: Move, balance: u32, noted: &mut [u64]) -> usize
     splits
 }
 
-// Each piece gives what is put down for it: what is left of the pieces closes up, and what they give is lifted, with its new holder.
+// Each piece gives what is put down for it: what is left of the pieces closes up, and what they give is lifted, with
+// its new holder.
 fn part(
     table: &mut [u32],
     n: usize,

@@ -1,4 +1,5 @@
--- A move of pieces in the lent table asks that they lie there, and that no holder is the number of a vacant place: of a book that adds up both are known.
+-- A move of pieces in the lent table asks that they lie there, and that no holder is the number of a vacant place: of a
+-- book that adds up both are known.
 -- Assumes nothing.
 use Rattle.std.proofs.Common.{◌≡◌, List, ℕ, arith}
 use Rattle.table.specs.Pieces.{All}

@@ -22,7 +22,8 @@ fn post_checked<P: Posting>(head: &mut Head, table: &mut [u32], p: P) -> Result<
     motions::post_known(head, table, &mut TableKeeping::new(), p)
 }
 
-// What is answered to a posting that left this head. A refusal has its number, the head as it was, and all other numbers 0.
+// What is answered to a posting that left this head. A refusal has its number, the head as it was, and all other
+// numbers 0.
 fn answer(head: Head, posted: Result<Applied, Refusal>) -> Transferred
     ensures { result ≡ said head posted }
 {

@@ -1,4 +1,5 @@
--- A report on head and table: its refusals, and its acceptance on a book known to add up. One law for all three reports.
+-- A report on head and table: its refusals, and its acceptance on a book known to add up. One law for all three
+-- reports.
 -- Assumes nothing.
 use Rattle.std.proofs.Common.{◌≡◌, refl, sym, ◌∙◌, List, ℕ, ◌*◌, ◌≤◌, arith, length}
 use Rattle.table.specs.Table.{pieces_of}
@@ -67,8 +68,8 @@ asked_square h t room n e zn = whole_room h.vessels (length room) Whole refl (as
 -- what a report that is accepted asks and gives
 pub ruleset accepted = (asked_there, asked_fits, asked_square, asked_reportable, asked_accepted)
 
--- EITHER WAY: the promise leaves nothing open, so that two functions that keep it give the same answer and leave the same numbers. `whole` and
--- `whole_by_rows` are such two.
+-- EITHER WAY: the promise leaves nothing open, so that two functions that keep it give the same answer and leave the
+-- same numbers. `whole` and `whole_by_rows` are such two.
 pub either_way : {h : Head} {q : Report} {t room r r' : List ℕ} {z z' : Reply} → Asks h q t room r z → Asks h q t room r' z' → (z ≡ z') × (r ≡ r')
 either_way a b = grind arith
 

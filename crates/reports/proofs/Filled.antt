@@ -1,4 +1,5 @@
--- The loops and parts of a report: clearing its numbers, entering a piece, what a pass asks of a book's pieces and leaves, and rows one behind the other.
+-- The loops and parts of a report: clearing its numbers, entering a piece, what a pass asks of a book's pieces and
+-- leaves, and rows one behind the other.
 -- Assumes nothing.
 use Rattle.std.proofs.Common.{◌≡◌, refl, sym, ap, ◌∙◌, Bool, true, false, List, [], ◌∷◌, ◌++◌, append_assoc, append-nil, ℕ, zero, suc, ◌+◌, ◌*◌, ◌≤◌, ◌<◌, zero-add, zero-mul, suc-mul, add-zero, add-one, arith, eqb, length, length-take, take, drop, drop_of_length-le, take_at, drop_at, drop-drop}
 use Rattle.std.proofs.lemmas.List.{length-take-le}
@@ -15,7 +16,8 @@ use Rattle.reports.specs.Scatter.{held_by, born, off_scale, origin_of, holder_of
 use Rattle.reports.proofs.Scattered.{tally_kind, scattered}
 use Rattle.reports.proofs.Square.{tally_square, in_a_vessel, cells_inside, rows_in_one_pass}
 
--- What the passes over a book's pieces ask: the pieces that one counts at an index are some of those that a vessel holds.
+-- What the passes over a book's pieces ask: the pieces that one counts at an index are some of those that a vessel
+-- holds.
 narrower : (j k : Kind) → ((h o b : ℕ) → j h o b ≡ true → k h o b ≡ true) → (ps : List Piece) → sum j ps ≤ sum k ps
 narrower j k f [] = omega arith
 narrower j k f (p ∷ ps) = grind (arith, f p.holder p.origin p.birth, narrower j k f ps)

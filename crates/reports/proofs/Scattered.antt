@@ -1,5 +1,5 @@
--- A report filled in one pass: over numbers that are 0 at first, each becomes the sum of its kind, and the numbers behind stay.
--- Shown once for any test and any index, so that held, spread and whole are instances.
+-- A report filled in one pass: over numbers that are 0 at first, each becomes the sum of its kind, and the numbers
+-- behind stay. Shown once for any test and any index, so that held, spread and whole are instances.
 -- Assumes nothing.
 use Rattle.std.proofs.lemmas.List.{set-append_left}
 use Rattle.std.proofs.Common.{◌≡◌, refl, sym, ap, ◌∙◌, Bool, true, ◌&&◌, List, [], ◌∷◌, ◌++◌, ℕ, ◌+◌, ◌<◌, append-nil, arith, eqb, length, get_or, drop, replicate, length-set, drop_of_length-le, get_or-set_same, get_or-set_other, ext_get_or}

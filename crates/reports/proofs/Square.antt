@@ -1,5 +1,6 @@
--- The rows of all vessels, one behind the other, are a square: the number of origin u in the row of vessel v is the one at v × size + u. So one pass
--- over the pieces in vessels, each entered at its origin in the row of its holder, fills what the rows are.
+-- The rows of all vessels, one behind the other, are a square: the number of origin u in the row of vessel v is the one
+-- at v × size + u. So one pass over the pieces in vessels, each entered at its origin in the row of its holder, fills
+-- what the rows are.
 -- Assumes nothing.
 use Rattle.std.proofs.Common.{◌≡◌, sym, ap, ◌∙◌, true, ◌&&◌, List, ◌++◌, ℕ, zero, suc, ◌+◌, ◌*◌, ◌≤◌, ◌<◌, zero-add, zero-mul, suc-mul, add_comm, mul-le-mul_right, arith, eqb}
 use Rattle.std.proofs.lemmas.Bool.Decides.{nat_tests}
@@ -55,7 +56,8 @@ pub cells_inside : (m : ℕ) {ps : List Piece} → All (λ p. is_holder m p.hold
     → All (λ p. off_scale p ≡ true → cell_of m p < m * m) ps
 cells_inside m h o = all_map (λ p (g, inside) c. omega (arith, row_below m p.holder m (in_a_vessel m p g c), inside)) (all_both h o)
 
--- ONE PASS: "go over the pieces once and add each where it belongs." Over numbers cleared before, that is the whole report.
+-- ONE PASS: "go over the pieces once and add each where it belongs." Over numbers cleared before, that is the whole
+-- report.
 pub rows_in_one_pass : (m : ℕ) (room : List ℕ) {ps : List Piece} → m ≤ most_vessels → All (λ p. is_holder m p.holder ≡ true) ps
     → All (λ p. p.origin < m) ps → one_pass (m * m) off_scale (cell_of m) room ps ≡ onto (report_row m ps Whole) room
 rows_in_one_pass m room {ps} few h o = scattered _ _ (m * m) room ps (cells_inside m h o) ∙ ap (λ (w : List ℕ). onto w room) (sym (rows_square m few ps o))

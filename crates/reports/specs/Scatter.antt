@@ -1,7 +1,8 @@
--- How the code fills a report in one pass: over cleared numbers, each piece that counts is added to the number at its index. For held the
--- index is the origin, for spread the holder, for whole the origin in the row of the holder. Pieces on the scale are in no vessel: held is asked
--- of vessels alone, and spread and whole leave them out. proofs/Scattered.antt shows that each number becomes the sum of its kind,
--- proofs/Square.antt that those of whole are its rows.
+-- How the code fills a report in one pass: over cleared numbers, each piece that counts is added to the number at its
+-- index. For held the index is the origin, for spread the holder, for whole the origin in the row of the holder. Pieces
+-- on the scale are in no vessel: held is asked of vessels alone, and spread and whole leave them out.
+-- proofs/Scattered.antt shows that each number becomes the sum of its kind, proofs/Square.antt that those of whole are
+-- its rows.
 -- Definitions only. Assumes nothing.
 use Rattle.std.specs.Prelude.{◌≡◌, Bool, true, ◌&&◌, not, cond, List, [], ◌∷◌, ◌++◌, ℕ, ◌+◌, ◌*◌, ◌≤◌, ◌<◌, leb, eqb, length, get_or, set, drop, replicate}
 use Rattle.table.specs.declared.Piece.{Piece}
@@ -28,7 +29,8 @@ scatter test at r (p ∷ ps) = scatter test at (entered test at r p) ps
 abbrev pub tally : (Piece → Bool) → (Piece → ℕ) → List Piece → ℕ → ℕ
 tally test at ps j = total (λ p. only (eqb (at p) j && test p) p.weight) ps
 
--- if the piece counts, its index lies in the numbers r, and the number there ends within 32 bits: of one piece entered, and of all of them
+-- if the piece counts, its index lies in the numbers r, and the number there ends within 32 bits: of one piece entered,
+-- and of all of them
 abbrev pub Enterable : (Piece → Bool) → (Piece → ℕ) → List ℕ → Piece → Type 0
 Enterable test at r p = test p ≡ true → (at p < length r) × (get_or (entered test at r p) (at p) 0 ≤ TOP)
 

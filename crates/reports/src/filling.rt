@@ -1,5 +1,5 @@
-// What a report writes, at the start of room that the caller lends: one pass over the pieces, which adds each that counts at its number; whole also
-// row by row.
+// What a report writes, at the start of room that the caller lends: one pass over the pieces, which adds each that
+// counts at its number; whole also row by row.
 ghost use Rattle.std.specs.Prelude.{◌≡◌, ◌≤◌, ◌*◌, Bool, if◌then◌else◌, ℕ, length};
 ghost use Rattle.table.specs.declared.Piece.{Piece};
 ghost use Rattle.refusal.specs.Numbers.{first};
@@ -136,7 +136,8 @@ fn fill_whole(pieces: &Pieces, vessels: u32, report: &mut [u32])
     fill_pass(pieces, &ByBoth { row: vessels }, report);
 }
 
-// The same at the start of the room, row by row: each row, by its place in the room, is lent to the held report of its vessel.
+// The same at the start of the room, row by row: each row, by its place in the room, is lent to the held report of its
+// vessel.
 #[tactic(auto, using(crate::proofs::Filled::rows_none, crate::proofs::Filled::rows_next))]
 pub fn fill_rows(pieces: &Pieces, vessels: u32, report: &mut [u32])
     requires { (vessels * vessels ≤ length report.old) × Reportable vessels pieces.now }
@@ -149,8 +150,9 @@ pub fn fill_rows(pieces: &Pieces, vessels: u32, report: &mut [u32])
     }
 }
 
-// What is asked, at the start of room that its checks found long enough. Pieces, count of vessels and room are parameters of their own here and
-// above: the pieces are read, the room is written, and that they fit is known of a book that adds up, not of one of them.
+// What is asked, at the start of room that its checks found long enough. Pieces, count of vessels and room are
+// parameters of their own here and above: the pieces are read, the room is written, and that they fit is known of a
+// book that adds up, not of one of them.
 #[tactic(auto, using(crate::proofs::Filled::room_laws))]
 pub fn fill(pieces: &Pieces, vessels: u32, asked: Report, room: &mut [u32])
     requires { (first (asked_checks vessels (length room.old) asked) ≡ 0) × Reportable vessels pieces.now }

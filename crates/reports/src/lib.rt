@@ -1,4 +1,5 @@
-// Reports: the weight by origin in a vessel, by vessel from an origin, and all of it. Each writes to room that the caller lends.
+// Reports: the weight by origin in a vessel, by vessel from an origin, and all of it. Each writes to room that the
+// caller lends.
 #![tactic(auto)]
 
 ghost use Rattle.std.specs.Prelude.{◌≡◌};
@@ -16,7 +17,8 @@ use table::reading::Pieces;
 mod filling; // filling.rt: what a report adds up, in one pass over the pieces
 pub mod known; // known.rt: a report on a book that adds up
 
-// The checks after 1 and 4. What is asked is told by its variant, which is looked at once here and once where the room is filled.
+// The checks after 1 and 4. What is asked is told by its variant, which is looked at once here and once where the room
+// is filled.
 #[tactic(auto, unfolding(book::specs::Reports::asked_checks))]
 fn check_asked(vessels: u32, asked: Report, room: usize) -> Result<(), Refusal>
     ensures { outcome_number result ≡ first (asked_checks vessels room asked) }
@@ -94,8 +96,8 @@ pub fn whole(head: Head, table: &[u32], room: &mut [u32]) -> Reply
     report(head, table, Report::Whole, room)
 }
 
-// The same, row by row: each is made by the held report of its vessel. Not one function with `report`: they share `check`, and the step
-// behind it is what differs; a trait for it would be longer than both.
+// The same, row by row: each is made by the held report of its vessel. Not one function with `report`: they share
+// `check`, and the step behind it is what differs; a trait for it would be longer than both.
 #[tactic(auto, using(crate::proofs::Asked::accepted))]
 pub fn whole_by_rows(head: Head, table: &[u32], room: &mut [u32]) -> Reply
     ensures { Asks head Whole table.now room.old room.new result }

@@ -1,4 +1,5 @@
--- A run makes one movement after the other. What `Going` says of it is said of the table as it would be, were the pieces of its book written into it.
+-- A run makes one movement after the other. What `Going` says of it is said of the table as it would be, were the
+-- pieces of its book written into it.
 -- Assumes nothing.
 use Rattle.std.proofs.Common.{◌≡◌, refl, List, ℕ, ◌+◌, ◌≤◌, ◌<◌}
 use Rattle.std.specs.Prelude.{Result, Ok, Err}

@@ -1,5 +1,6 @@
--- A run: "A run reads the sheet, checks 1, opens a book and transfers until one is refused; its answer has that number, the movement's
--- index from 0 (M if all passed), and the even count. It stops with the head and table after the last accepted one."
+-- A run: "A run reads the sheet, checks 1, opens a book and transfers until one is refused; its answer has that number,
+-- the movement's index from 0 (M if all passed), and the even count. It stops with the head and table after the last
+-- accepted one."
 -- Definitions only. Assumes nothing.
 use Rattle.std.specs.Prelude.{◌≡◌, List, [], ◌∷◌, ℕ, zero, suc, ◌+◌, ◌*◌, ◌≤◌, ltb, length, drop, Result, MatchResult}
 use Rattle.refusal.specs.Numbers.{◌if◌, first, if_zero}

@@ -11,12 +11,12 @@ ghost use Rattle.run.specs.Run.{transfer_at, transfers_of, not_run, ran_to, Give
 
 use book::{Head, Transfer};
 use lane_book::LaneBook;
-use taking::Applied;
 use refusal::Refusal;
 use sheet::Sheet;
+use taking::Applied;
 
-// What a run yields: the number of the movement that stopped it or 0, that movement's index or the count of all, the even count, and
-// the head after the last accepted movement. C gets it by value, so that a number tells a refusal.
+// What a run yields: the number of the movement that stopped it or 0, that movement's index or the count of all, the
+// even count, and the head after the last accepted movement. C gets it by value, so that a number tells a refusal.
 #[repr(C)]
 #[derive(Clone, Copy, Debug, PartialEq, Eq)]
 pub struct Ran {

@@ -1,6 +1,7 @@
--- A RUN IS THE FOLD OF DOCUMENT 01'S TRANSFERS over the movements read: it ends with the head, the table and the even count that calling
--- the transfers in turn gives, up to and with the first that is refused. So demand 3 holds of it; and nothing is on the scale at its end, as a
--- sheet knows no lift (`run_bare`), and every pick goes by its one rule (`run_one_rule`).
+-- A RUN IS THE FOLD OF DOCUMENT 01'S TRANSFERS over the movements read: it ends with the head, the table and the even
+-- count that calling the transfers in turn gives, up to and with the first that is refused. So demand 3 holds of it;
+-- and nothing is on the scale at its end, as a sheet knows no lift (`run_bare`), and every pick goes by its one rule
+-- (`run_one_rule`).
 -- Assumes nothing.
 use Rattle.std.proofs.Common.{◌≡◌, refl, sym, ap, ◌∙◌, true, false, not, List, [], ◌∷◌, ◌++◌, map, ℕ, zero, suc, ◌+◌, ◌-◌, ◌≤◌, arith, length, take, replicate}
 use Rattle.refusal.specs.Numbers.{first, if_zero}
@@ -28,7 +29,8 @@ use Rattle.run.proofs.InWords.{refused_run}
 abbrev pub calls_from : ℕ → List Transfer → List Call
 calls_from n xs = map post (take n xs)
 
--- A run from index i on, against the journal of its transfers tried: so many are accepted, and then one is refused or none is left.
+-- A run from index i on, against the journal of its transfers tried: so many are accepted, and then one is refused or
+-- none is left.
 pub record Folds (i even : ℕ) (h : Head) (t : List ℕ) (xs : List Transfer) (r : Running) : Type 0 where
   pub tried : ℕ
   pub index_is : r.answer.index + if_zero r.answer.number 0 1 ≡ i + tried

@@ -1,6 +1,7 @@
--- WHAT BECAME OF DOCUMENT 01'S SHEETS. `former_numbers`: every sheet gets the number that it got, unless that was 18, or 15 for want of a movement.
--- `former_sheets`: one that was read is read still, and each of its movements has age 0, the former meaning. `every_age`: reading never gives 18.
--- The two lists of checks are the same but for 15, which refuses less now, and for the 18 of each movement, which is gone.
+-- WHAT BECAME OF DOCUMENT 01'S SHEETS. `former_numbers`: every sheet gets the number that it got, unless that was 18,
+-- or 15 for want of a movement. `former_sheets`: one that was read is read still, and each of its movements has age 0,
+-- the former meaning. `every_age`: reading never gives 18. The two lists of checks are the same but for 15, which
+-- refuses less now, and for the 18 of each movement, which is gone.
 -- Assumes nothing.
 use Rattle.std.proofs.Common.{ℕ, zero, suc, ◌≤◌, ◌<◌, arith, ◌≡◌, refl, sym, ap, ◌∙◌, Bool, not, false, List, [], ◌∷◌, ◌++◌, T, eqb, ltb, length, get_or, drop, ltb-false, le-ltb}
 use Rattle.std.proofs.lemmas.Bool.{or_parts}

@@ -1,5 +1,5 @@
--- A SHEET WITHOUT MOVEMENTS (M = 0). `no_movement_read`: of its checks 14, 2, 3, 16 and 17 are left, as they are of every sheet.
--- `no_movement_asked`: asking for any movement of it gives 20.
+-- A SHEET WITHOUT MOVEMENTS (M = 0). `no_movement_read`: of its checks 14, 2, 3, 16 and 17 are left, as they are of
+-- every sheet. `no_movement_asked`: asking for any movement of it gives 20.
 -- Assumes nothing.
 use Rattle.std.proofs.Common.{ℕ, arith, ◌≡◌, List, [], ◌∷◌, ◌++◌}
 use Rattle.refusal.specs.Numbers.{◌if◌, first}

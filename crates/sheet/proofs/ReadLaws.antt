@@ -1,4 +1,5 @@
--- Laws of a sheet read whole: what a good header lays down, the number at each way out, and what an answer of number 0 is.
+-- Laws of a sheet read whole: what a good header lays down, the number at each way out, and what an answer of number 0
+-- is.
 -- Assumes nothing.
 use Rattle.std.specs.Prelude.{Result, Ok, Err, MatchResult}
 use Rattle.std.specs.Result.{IsErrAnd}

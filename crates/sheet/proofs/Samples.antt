@@ -1,5 +1,5 @@
--- Reading's numbers on small sheets, as one table and one theorem: a sheet of three vessels and two movements, then the same with one thing wrong in each row.
--- And what asking for the movements of that sheet yields.
+-- Reading's numbers on small sheets, as one table and one theorem: a sheet of three vessels and two movements, then the
+-- same with one thing wrong in each row. And what asking for the movements of that sheet yields.
 -- Assumes nothing.
 use Rattle.std.proofs.Common.{ℕ, ◌≡◌, refl, List, [], ◌∷◌, ◌++◌, map, set, take}
 use Rattle.book.specs.Head.{same, all_zero}

@@ -61,7 +61,8 @@ name_number s vessel = asked_number s (5 if leb (vessels_of s) vessel)
 abbrev pub name_bytes : List ℕ → ℕ → List ℕ
 name_bytes s vessel = take name_size (drop (name_start vessel) s)
 
--- "Asking for a vessel's name yields that part of the sheet itself without its zeros, and on any refusal the empty part".
+-- "Asking for a vessel's name yields that part of the sheet itself without its zeros, and on any refusal the empty
+-- part".
 abbrev pub name_asked : List ℕ → ℕ → List ℕ
 name_asked s vessel = if_zero (name_number s vessel) (short_name (name_bytes s vessel)) []
 
@@ -69,7 +70,8 @@ name_asked s vessel = if_zero (name_number s vessel) (short_name (name_bytes s v
 abbrev pub name_place : List ℕ → ℕ → ℕ
 name_place s vessel = if_zero (name_number s vessel) (name_start vessel) 0
 
--- The part that asking for a name gives: its bytes, and that it lies in the sheet itself, at its place. A pointer is a block of memory and a place in it.
+-- The part that asking for a name gives: its bytes, and that it lies in the sheet itself, at its place. A pointer is a
+-- block of memory and a place in it.
 pub record NamePart (s : List ℕ) (vessel : ℕ) (sheet_at : ℕ × ℕ) (part : List ℕ) (part_at : ℕ × ℕ) : Type 0 where
   pub bytes : part ≡ name_asked s vessel
   pub block : part_at.0 ≡ sheet_at.0

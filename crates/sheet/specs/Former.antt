@@ -1,5 +1,5 @@
--- Reading a sheet as document 01 had it: a sheet had a movement at least, and a movement had a filler of 0 where it has its age now.
--- `former_numbers` and `former_sheets` (proofs/Former.antt) say what became of these sheets.
+-- Reading a sheet as document 01 had it: a sheet had a movement at least, and a movement had a filler of 0 where it has
+-- its age now. `former_numbers` and `former_sheets` (proofs/Former.antt) say what became of these sheets.
 -- Definitions only. Assumes nothing.
 use Rattle.std.specs.Prelude.{Bool, not, ◌||◌, List, ◌∷◌, ◌++◌, ℕ, eqb, ltb}
 use Rattle.refusal.specs.Numbers.{Check, ◌if◌, first}

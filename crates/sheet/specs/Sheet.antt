@@ -18,7 +18,8 @@ vessels_of s = value_in 2 (drop vessels_at s)
 abbrev pub movements_of : List ℕ → ℕ
 movements_of s = value_in 4 (drop movements_at s)
 
--- "12: offset of names = 24 (4). 16: offset of movements = 24 + 8V (4). 20: length = 24 + 8V + 12M, also the real length (4)."
+-- "12: offset of names = 24 (4). 16: offset of movements = 24 + 8V (4). 20: length = 24 + 8V + 12M, also the real
+-- length (4)."
 unfoldable pub layout_off : ℕ → ℕ → List ℕ → Bool
 layout_off vessels movements s =
     not (eqb (value_in 4 (drop names_at s)) header_size)
@@ -54,7 +55,8 @@ names_read s = names_in (vessels_of s) (drop header_size s)
 abbrev pub entries_read : List ℕ → List Entry
 entries_read s = entries_in (movements_of s) (drop (entries_start (vessels_of s)) s)
 
--- "checks 14, 2, 3, 15, 16, 17, then each movement in turn for" 5. Document 02, #101, takes 18 away: "reading never gives number 18 again".
+-- "checks 14, 2, 3, 15, 16, 17, then each movement in turn for" 5. Document 02, #101, takes 18 away: "reading never
+-- gives number 18 again".
 abbrev pub read_checks : List ℕ → List Check
 read_checks s = header_checks s ++ body_checks (vessels_of s) (movements_of s) s
 

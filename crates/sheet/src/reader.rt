@@ -30,8 +30,8 @@ fn check_body(sheet: &[u8], vessels: u32, movements: u32) -> Result<(), Refusal>
     fields::entries::check_entries(entries, vessels)
 }
 
-// A sheet that reads well: its bytes, which contracts see, and the numbers of their header. A type with a view and a lifetime cannot be
-// `Copy`, so functions take it by reference.
+// A sheet that reads well: its bytes, which contracts see, and the numbers of their header. A type with a view and a
+// lifetime cannot be `Copy`, so functions take it by reference.
 #[derive(Drop)]
 pub struct Sheet<'a> {
     bytes: &'a [u8],

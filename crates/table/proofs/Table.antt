@@ -1,5 +1,5 @@
--- The laws of a table of pieces. Each is by induction over lists of the form `flat ps ++ rest`, at places counted by `quad`,
--- which computes where `4 * n` does not.
+-- The laws of a table of pieces. Each is by induction over lists of the form `flat ps ++ rest`, at places counted by
+-- `quad`, which computes where `4 * n` does not.
 -- Assumes nothing.
 use Rattle.std.proofs.Common.{ℕ, zero, suc, ◌+◌, ◌-◌, ◌*◌, ◌≤◌, ◌<◌, not-suc-le-zero, le_of_suc-le-suc, add-zero, arith, ◌≡◌, refl, sym, ap, ◌∙◌, List, [], ◌∷◌, ◌++◌, add-one, length, get_or, take, drop, set, length-set, drop-drop, get_or-drop, take-suc-set, take_at, drop_at}
 use native.Mathlib.Numerals.{towards_suc}

@@ -1,5 +1,5 @@
--- Closing up: "leaves its place, those behind close up, and it joins the end". A place whose piece has gone is vacant until the pieces
--- behind it close up; then the pieces that were lifted out are put at the end.
+-- Closing up: "leaves its place, those behind close up, and it joins the end". A place whose piece has gone is vacant
+-- until the pieces behind it close up; then the pieces that were lifted out are put at the end.
 -- Definitions only. Assumes nothing.
 use Rattle.std.specs.Prelude.{◌≡◌, cond, List, [], ◌∷◌, ◌++◌, ℕ, ◌+◌, ◌*◌, ◌≤◌, ◌<◌, eqb, length, drop}
 use Rattle.table.specs.declared.Piece.{Piece}

@@ -1,4 +1,5 @@
--- "Vessels, pieces, the head": the table. The pieces lie in it four numbers each, in order of receipt over all vessels together.
+-- "Vessels, pieces, the head": the table. The pieces lie in it four numbers each, in order of receipt over all vessels
+-- together.
 -- Definitions only. Assumes nothing.
 use Rattle.std.specs.Prelude.{List, [], ◌∷◌, ◌++◌, ℕ, zero, suc, ◌*◌, ◌/◌, min, length, get_or, set, drop}
 use Rattle.table.specs.declared.Piece.{Piece}

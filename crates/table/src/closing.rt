@@ -9,7 +9,8 @@ use crate::{Piece, piece_at, put_piece};
 pub const VACANT: u32 = u32::MAX;
 
 // The pieces that are not vacant close up; the answer is their count. The numbers that this frees are left as they are.
-// Table and count stand beside each other here and below: the table is lent by C, and written in place or read between two writes.
+// Table and count stand beside each other here and below: the table is lent by C, and written in place or read between
+// two writes.
 #[tactic(auto, using(crate::proofs::ClosingUp::close_start, crate::proofs::ClosingUp::close_end))]
 fn close_up(table: &mut [u32], n: usize) -> usize
     requires { (n ≤ most_places) × (4 * n ≤ length table.old) }
@@ -35,7 +36,8 @@ fn close_gaps(table: &mut [u32], n: usize, gone: usize) -> usize
     if gone == 0 { n } else { close_up(table, n) }
 }
 
-// The first g lifted pieces are put at place j and on. As a slice of their own they would be cut at each call, and counted again from its length.
+// The first g lifted pieces are put at place j and on. As a slice of their own they would be cut at each call, and
+// counted again from its length.
 #[tactic(auto, using(crate::proofs::ClosingUp::appended))]
 pub fn append(table: &mut [u32], j: usize, lifted: &[u32], g: usize)
     requires { (4 * (j + g) ≤ length table.old) × (4 * g ≤ length lifted.now) }
@@ -44,8 +46,9 @@ pub fn append(table: &mut [u32], j: usize, lifted: &[u32], g: usize)
     table[4 * j..4 * (j + g)].copy_from_slice(&lifted[..4 * g]);
 }
 
-// Of the first n places `gone` are vacant: the pieces of the others close up, and the first g lifted pieces are put behind them.
-// As many are lifted as have gone, or more, so that no number is left free. The answer is the count of the pieces.
+// Of the first n places `gone` are vacant: the pieces of the others close up, and the first g lifted pieces are put
+// behind them. As many are lifted as have gone, or more, so that no number is left free. The answer is the count of the
+// pieces.
 pub fn settle(table: &mut [u32], n: usize, gone: usize, lifted: &[u32], g: usize) -> usize
     requires { Settling n gone g table.old lifted.now }
     ensures { (table.new ≡ lay (settled n table.old g lifted.now) table.old)

@@ -1,5 +1,6 @@
-// The pieces of a book, in a lent table of 32-bit numbers: four for a piece, in order of receipt. How many they are stands beside the
-// table, since a head holds it: the C interface lends both as they are. Where pieces are only read, both become one value (reading.rt).
+// The pieces of a book, in a lent table of 32-bit numbers: four for a piece, in order of receipt. How many they are
+// stands beside the table, since a head holds it: the C interface lends both as they are. Where pieces are only read,
+// both become one value (reading.rt).
 #![tactic(auto)]
 
 ghost use Rattle.std.specs.Prelude.{◌≡◌, ◌<◌, ◌≤◌, ◌*◌, length};

@@ -12,7 +12,8 @@ use Rattle.table.proofs.Pieces.{all_append, all_map}
 use Rattle.taking.specs.Selection.{Found, nothing, at, precedes, wins, behind, against, select}
 use Rattle.taking.proofs.Taking.{Good, select_good}
 
--- The picked piece wins over each piece of s behind it, and no piece of s before it wins over it. If none is picked, s has none.
+-- The picked piece wins over each piece of s behind it, and no piece of s before it wins over it. If none is picked, s
+-- has none.
 abbrev pub Best : (Piece → Piece → Bool) → ℕ → List Piece → Found → Type 0
 Best better s ps nothing = All (λ r. r.holder ≢ s) ps
 Best better s ps (at b p a) = All (λ r. r.holder ≡ s → better r p ≡ false) b × All (λ r. r.holder ≡ s → better p r ≡ true) a
@@ -35,7 +36,8 @@ module _ (better : Piece → Piece → Bool) (s : ℕ)
       go false e nothing g h = also (eqb-false _ _ e) h
       go false e (at b x a) g h = (also (λ v. absurd (eqb-false _ _ e v)) h.0, h.1)
 
--- Under each rule a piece that wins over another wins over all that lose to it, and so over all that the other wins over.
+-- Under each rule a piece that wins over another wins over all that lose to it, and so over all that the other wins
+-- over.
 over : (rule p x r : ℕ) → precedes rule p x ≡ true → precedes rule r x ≡ false → precedes rule p r ≡ true
 unfolding precedes
 over rule p x r u v = grind (arith, common_steps)

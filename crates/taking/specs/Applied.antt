@@ -1,5 +1,5 @@
--- What moving the pieces answers, where so much is taken, and the table that it leaves. The places are full where the pieces afterwards would exceed
--- them.
+-- What moving the pieces answers, where so much is taken, and the table that it leaves. The places are full where the
+-- pieces afterwards would exceed them.
 -- Definitions only. Assumes nothing.
 use Rattle.std.specs.Prelude.{◌≡◌, Bool, cond, Option, None, Some, List, ℕ, ltb, length}
 use Rattle.table.specs.Table.{lay}

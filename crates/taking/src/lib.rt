@@ -1,5 +1,5 @@
-// A move of pieces from a holder to another, and what it did, as data. What is picked by each rule, taken and handed over is said in specs/, and what follows of
-// that is shown in proofs/.
+// A move of pieces from a holder to another, and what it did, as data. What is picked by each rule, taken and handed
+// over is said in specs/, and what follows of that is shown in proofs/.
 #![tactic(auto)]
 
 // The rule that picks as pieces were received, the first first.

@@ -1,5 +1,5 @@
--- What is shown of a line of vectors. Its numbers are a rule, and movements that are written as a sheet of three vessels, run on a table of
--- six places, and listed; or a rule, and calls that are carried out.
+-- What is shown of a line of vectors. Its numbers are a rule, and movements that are written as a sheet of three
+-- vessels, run on a table of six places, and listed; or a rule, and calls that are carried out.
 -- Definitions only. Assumes nothing.
 use Rattle.std.specs.Prelude.{cond, List, [], ◌∷◌, ◌++◌, ◌≡◌, ℕ, ◌+◌, ◌*◌, ◌≤◌, eqb, get_or, take, drop, replicate, decimal}
 use Rattle.refusal.specs.Numbers.{first, if_zero}
@@ -98,8 +98,8 @@ numbers_text (n ∷ ns) = (decimal n ++ (space ∷ [])) ++ numbers_text ns
 abbrev pub numbers_line : List ℕ → List ℕ
 numbers_line ns = numbers_text ns ++ (newline ∷ [])
 
--- What is shown of calls that are carried out under a rule: the number of each, and the room after. A list that is refused leaves both as
--- they were.
+-- What is shown of calls that are carried out under a rule: the number of each, and the room after. A list that is
+-- refused leaves both as they were.
 abbrev pub unread_listing : List ℕ
 unread_listing = numbers_line (replicate answers_room unwritten) ++ numbers_line (replicate report_room unwritten)
 

@@ -1,6 +1,6 @@
-// Worked vectors: each line of the file stdin is one, and what is shown of it is held to the file stdout. A line is a heading (`#`), a list
-// of calls (`calls`, the rule, the calls), or a sheet (the rule, the movements), which is written, run and listed. The first are document
-// 01's, K1 to K10; the others tell apart what those can't.
+// Worked vectors: each line of the file stdin is one, and what is shown of it is held to the file stdout. A line is a
+// heading (`#`), a list of calls (`calls`, the rule, the calls), or a sheet (the rule, the movements), which is
+// written, run and listed. The first are document 01's, K1 to K10; the others tell apart what those can't.
 #![tactic(auto)]
 
 ghost use Rattle.std.specs.Prelude.{◌≡◌, ◌++◌, get_or, drop, replicate, OnOk};
@@ -14,6 +14,8 @@ use input::read_full;
 use journal::Call;
 use std::io;
 use std::io::Write;
+
+mod kept; // kept.rt: calls carried out, and all that is kept
 
 const INPUT: usize = 8192; // bytes of all vectors at most
 
@@ -76,8 +78,8 @@ fn print_line<W: Write>(numbers: &[u32], out: &mut W) -> io::Result<()>
     out.write_all(b"\n")
 }
 
-// Carries out calls in numbers on a fresh book of three vessels: the number of each goes to the answers, and reports to the room. Demand 3 is in the
-// contract of `journal::carry_out`.
+// Carries out calls in numbers on a fresh book of three vessels: the number of each goes to the answers, and reports to
+// the room.
 fn carry_out(rule: u32, numbers: &[u32], answers: &mut [u32], room: &mut [u32])
     requires { (answers.old ≡ replicate answers_room unwritten) × (room.old ≡ replicate report_room unwritten) }
     ensures { numbers_line answers.new ++ numbers_line room.new ≡ carried_listing rule numbers.now }
@@ -86,7 +88,7 @@ fn carry_out(rule: u32, numbers: &[u32], answers: &mut [u32], room: &mut [u32])
     let mut table = [0u32; TABLE];
     match encoding::read_calls(numbers, &mut calls) {
         Ok(n) => {
-            journal::carry_out(rule, VESSELS as u32, &mut table, &calls[..n], answers, room);
+            kept::carry_out(rule, &mut table, &calls[..n], answers, room);
         }
         Err(_) => {}
     }

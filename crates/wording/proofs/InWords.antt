@@ -1,7 +1,8 @@
--- Transfer, lift, tip, setting and report in the papers' own words, of a call: where it is answered 0, the table is laid with the pieces of `in_table`,
--- where each picked piece joins the end at once, and the answer is what that says; a tip leaves the pieces elsewhere in their order and those of the
--- scale, in the order they lay, behind them; a setting changes one number of the head, and the picks from one vessel. And a report: its numbers are
--- written, and the numbers after these remain. What is refused gives zeros, the head as it was, and changes nothing.
+-- Transfer, lift, tip, setting and report in the papers' own words, of a call: where it is answered 0, the table is
+-- laid with the pieces of `in_table`, where each picked piece joins the end at once, and the answer is what that says;
+-- a tip leaves the pieces elsewhere in their order and those of the scale, in the order they lay, behind them; a
+-- setting changes one number of the head, and the picks from one vessel. And a report: its numbers are written, and the
+-- numbers after these remain. What is refused gives zeros, the head as it was, and changes nothing.
 -- Assumes nothing.
 use Rattle.std.proofs.Common.{◌≡◌, refl, sym, ◌≢◌, not, List, [], ◌∷◌, ◌++◌, map, append-nil, ℕ, arith, leb, ltb, length, take, drop, take_at, drop_at, ◌∙◌}
 use Rattle.std.proofs.lemmas.Bool.Decides.{nat_tests}
@@ -78,7 +79,8 @@ module _ (h : Head) (t : List ℕ) where
   unfolding call_on
   report_in_words q room z = let e = sym (call_number h t (ask q room)) ∙ z in rw (e, all_pass ps) (take_at (report_row h.vessels ps q) _ _ refl, drop_at (report_row h.vessels ps q) _ _ refl)
 
-  -- A refusal returns its number with all other answer numbers 0 and the head as given; no lent memory changes, the room of a report neither.
+  -- A refusal returns its number with all other answer numbers 0 and the head as given; no lent memory changes, the
+  -- room of a report neither.
   no_answers : (c : Call) (n : ℕ) → ((meaning c).refused n (length t) (book_of h t)).answer ≡ no_answer
   no_answers (enter p) n = refl
   no_answers c n = refl
@@ -96,8 +98,8 @@ module _ (h : Head) (t : List ℕ) where
   unfolding number_of book_checks setting_checks
   set_checks s = grind (arith, nat_tests)
 
-  -- "A new call sets [a vessel's rule] at any moment for later picks": of all numbers of head and table just that one changes, and the vessel is picked
-  -- from by it, any other as before.
+  -- "A new call sets [a vessel's rule] at any moment for later picks": of all numbers of head and table just that one
+  -- changes, and the vessel is picked from by it, any other as before.
   pub set_in_words : (s : Setting) → (call_on h t (set_rule s)).number ≡ 0 → length h.rules ≡ most_vessels
       → let o = call_on h t (set_rule s) in
       (o.head ≡ ruled h s) × (o.table ≡ t) × (rule_at o.head.rules s.vessel ≡ s.rule) × ((v : ℕ) → v ≢ s.vessel → rule_at o.head.rules v ≡ rule_at h.rules v)

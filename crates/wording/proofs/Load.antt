@@ -1,7 +1,8 @@
--- BESIDE A LOADED SCALE. "Transfers and reports are now allowed with weight on the scale; 22 is left for lift alone": `loaded_refuses`, `lift_alone`.
--- Whatever is called but tips, the load stays on the scale as it is, in its order (`load_waits`): a transfer takes from its source and joins the end,
--- a lift is refused, and a report and the setting of a rule move nothing. "A tip brings them in behind all that d received meanwhile":
--- `tip_comes_last`. "Pieces on it are in no vessel, and no vessel's report includes them": `report_unloaded`. Nor does it play a part in a transfer:
+-- BESIDE A LOADED SCALE. "Transfers and reports are now allowed with weight on the scale; 22 is left for lift alone":
+-- `loaded_refuses`, `lift_alone`. Whatever is called but tips, the load stays on the scale as it is, in its order
+-- (`load_waits`): a transfer takes from its source and joins the end, a lift is refused, and a report and the setting
+-- of a rule move nothing. "A tip brings them in behind all that d received meanwhile": `tip_comes_last`. "Pieces on it
+-- are in no vessel, and no vessel's report includes them": `report_unloaded`. Nor does it play a part in a transfer:
 -- `load_apart`.
 -- Assumes nothing.
 use Rattle.std.proofs.Common.{◌≡◌, refl, sym, ap, ◌≢◌, List, [], ◌∷◌, ◌++◌, map, ℕ, ◌+◌, ne_eqb, zero, suc, ◌<◌, arith, length, ◌∙◌}
@@ -106,8 +107,8 @@ load_waits (c ∷ cs) h t loaded u =
     let k = scale_stays h t loaded c (omega arith) in
     load_waits cs o.head o.table (λ z. loaded (sym k ∙ z)) (omega arith) ∙ load_stays h t loaded c (omega arith)
 
--- "A TIP BRINGS THEM IN BEHIND ALL THAT d RECEIVED MEANWHILE": whatever was called but tips since the scale was loaded, what lay there then, in the
--- order it lay, is behind all other pieces.
+-- "A TIP BRINGS THEM IN BEHIND ALL THAT d RECEIVED MEANWHILE": whatever was called but tips since the scale was loaded,
+-- what lay there then, in the order it lay, is behind all other pieces.
 pub tip_comes_last : (cs : List Call) (h : Head) (t : List ℕ) (y : Tip) → h.scale ≢ 0 → tips cs ≡ 0
     → let r = calls_on h t cs in
     let o = call_on r.head r.table (tip y) in
@@ -133,8 +134,8 @@ module _ (b : Book) (x : Transfer) (source : the_scale ≢ x.source) (destinatio
   unfolding transfer_checks
   apart_checks = rw (sum_elsewhere the_scale (in_vessel x.destination) (λ o m. ne_eqb the_scale x.destination destination) b.pieces) refl
 
--- THE LOAD PLAYS NO PART in a transfer: what it leaves in the vessels is what it leaves on the book without the load, it says the same, and its checks
--- are the same. (But 11: the pieces on the scale take places.)
+-- THE LOAD PLAYS NO PART in a transfer: what it leaves in the vessels is what it leaves on the book without the load,
+-- it says the same, and its checks are the same. (But 11: the pieces on the scale take places.)
 pub load_apart : (h : Head) (t : List ℕ) (x : Transfer) → (call_on h t (post x)).number ≡ 0
     → let now = book_of h t in
     let o = call_on h t (post x) in

@@ -1,5 +1,5 @@
--- THE SCALE. While nothing is on it, every tip is refused with 23, whatever else is amiss with it (`bare_refuses`; Load.antt has what is true while something
--- is). A transfer leaves its weight as it was (`post_scale`).
+-- THE SCALE. While nothing is on it, every tip is refused with 23, whatever else is amiss with it (`bare_refuses`;
+-- Load.antt has what is true while something is). A transfer leaves its weight as it was (`post_scale`).
 -- Assumes nothing.
 use Rattle.std.proofs.Common.{◌≡◌, refl, List, ℕ, arith, ◌∙◌}
 use Rattle.std.proofs.lemmas.Bool.Decides.{nat_tests}

@@ -1,9 +1,10 @@
--- A TRANSFER DIVIDED. "A transfer leaves what a lift onto a second, empty scale and its tip would leave": on every sound book, whatever lies on its own
--- scale, and under any number for the second one that is no vessel's and holds nothing. It is refused where one of the two would be, and with the number
--- of its own list: where the lift is accepted, with that of the tip, or with 6 where it goes back to its source; where the lift is refused, with that
--- of the lift, if nothing is amiss with the destination.
--- The idea: the same pieces are picked, by the source's rule, whoever they are handed to. What was lifted lies last, in picked order, and nothing else is
--- on that scale, which has no rule. So the tip sweeps just that, and hands it on as if it had been handed there at once.
+-- A TRANSFER DIVIDED. "A transfer leaves what a lift onto a second, empty scale and its tip would leave": on every
+-- sound book, whatever lies on its own scale, and under any number for the second one that is no vessel's and holds
+-- nothing. It is refused where one of the two would be, and with the number of its own list: where the lift is
+-- accepted, with that of the tip, or with 6 where it goes back to its source; where the lift is refused, with that of
+-- the lift, if nothing is amiss with the destination. The idea: the same pieces are picked, by the source's rule,
+-- whoever they are handed to. What was lifted lies last, in picked order, and nothing else is on that scale, which has
+-- no rule. So the tip sweeps just that, and hands it on as if it had been handed there at once.
 -- Assumes nothing.
 use Rattle.std.proofs.Common.{◌≡◌, refl, sym, ap, ◌≢◌, List, [], ◌∷◌, ◌++◌, ℕ, ◌+◌, ◌*◌, ◌≤◌, ◌<◌, add-zero, arith, T, leb, ltb, length, drop, drop_at, ◌∙◌}
 use Rattle.std.proofs.lemmas.Bool.Decides.{nat_tests}
@@ -118,7 +119,8 @@ module _ (scale len : ℕ) (b : Book) (x : Transfer) where
           lay_again lifted.pieces (pieces_after lifted (motion_on (tip_terms scale (tip_part x)) lifted)) t (tip_length lifted)
           ∙ ap (λ (ps : List Piece). lay ps t) same_pieces
 
-      -- the tip's number: what was lifted is there and no time has passed, so that the destination alone decides; and so it is with the transfer's
+      -- the tip's number: what was lifted is there and no time has passed, so that the destination alone decides; and
+      -- so it is with the transfer's
       tip_is : x.source ≢ x.destination → own len lifted down ≡ first (5 if leb b.vessels x.destination ∷ 9 if ltb TOP (held x.destination b.pieces + x.weight) ∷ [])
       unfolding tip_checks
       tip_is apart = grind (arith, nat_tests, on_scale, fits.weighty, in_others apart)

@@ -1,7 +1,8 @@
--- STIRRED VESSELS in document 02's words, of a call: where a transfer or a lift from a vessel with rule 4 is answered 0 (`stirred_in_words`,
--- `lift_stirred_in_words`). "With q below the balance T" each piece gives a part of it, and what a piece gives differs from the exact q × weight / T by less than
--- 1 gram, and the gifts sum to q: what is left of each stays in its order, and behind all that stays lies what each gives, in the order of receipt.
--- "With q ≥ T all moves, in order of receipt, and the rest is born."
+-- STIRRED VESSELS in document 02's words, of a call: where a transfer or a lift from a vessel with rule 4 is answered 0
+-- (`stirred_in_words`, `lift_stirred_in_words`). "With q below the balance T" each piece gives a part of it, and what a
+-- piece gives differs from the exact q × weight / T by less than 1 gram, and the gifts sum to q: what is left of each
+-- stays in its order, and behind all that stays lies what each gives, in the order of receipt. "With q ≥ T all moves,
+-- in order of receipt, and the rest is born."
 -- Assumes nothing.
 use Rattle.std.proofs.Common.{◌≡◌, refl, sym, ap, append-nil, List, ◌++◌, map, ℕ, ◌+◌, ◌-◌, ◌*◌, ◌≤◌, ◌<◌, arith, length, get_or, ◌∙◌}
 use Rattle.sharing.specs.Sharing.{sum_of}

@@ -1,9 +1,10 @@
--- A TRANSFER IS A LIFT AND A TIP IN SUCCESSION. Where nothing is on the scale, an accepted transfer leaves what its lift and then its tip leave: the
--- table, the head and the answer (`same_outcome`). It is refused where one of the two would be, and with the number of its own list: where the
--- lift is accepted, with that of the tip, or with 6 where it goes back to its source (`tip_decides`, `same_vessel`); where the lift is refused,
--- with that of the lift, if nothing is amiss with the destination (`lift_decides`).
--- SecondScale.antt shows it of a book and any scale; here that scale is the book's own, so that lift and tip are calls on a head and a table. And
--- `beside_the_load`: of an accepted transfer on any head and table, whatever is on the scale, with a second scale.
+-- A TRANSFER IS A LIFT AND A TIP IN SUCCESSION. Where nothing is on the scale, an accepted transfer leaves what its
+-- lift and then its tip leave: the table, the head and the answer (`same_outcome`). It is refused where one of the two
+-- would be, and with the number of its own list: where the lift is accepted, with that of the tip, or with 6 where it
+-- goes back to its source (`tip_decides`, `same_vessel`); where the lift is refused, with that of the lift, if nothing
+-- is amiss with the destination (`lift_decides`). SecondScale.antt shows it of a book and any scale; here that scale is
+-- the book's own, so that lift and tip are calls on a head and a table. And `beside_the_load`: of an accepted transfer
+-- on any head and table, whatever is on the scale, with a second scale.
 -- Assumes nothing.
 use Rattle.std.proofs.Common.{◌≡◌, refl, sym, ap, subst, ◌≢◌, List, [], ℕ, zero, suc, ◌+◌, ◌≤◌, ◌<◌, arith, length, ◌∙◌}
 use Rattle.table.specs.Pieces.{held}
@@ -156,8 +157,8 @@ succession h t x bare = go (first (book_checks h t)) refl
     go zero e = on h t x e bare
     go (suc n) e = off h t x n e
 
--- BESIDE THE LOAD: "a transfer leaves what a lift onto a second, empty scale and its tip would leave", whatever lies on the book's own. The second
--- scale has any number that is no vessel's and holds nothing.
+-- BESIDE THE LOAD: "a transfer leaves what a lift onto a second, empty scale and its tip would leave", whatever lies on
+-- the book's own. The second scale has any number that is no vessel's and holds nothing.
 pub beside_the_load : (h : Head) (t : List ℕ) (x : Transfer) (scale : ℕ) → h.vessels ≤ scale → held scale (book_of h t).pieces ≡ 0 → (call_on h t (post x)).number ≡ 0
     → let now = book_of h t in
     let up = posting_meaning (lift_terms scale (lift_part x)) in

@@ -1,5 +1,5 @@
--- A SHEET WRITTEN FROM NO NUMBERS. `no_movement_number`: the writer checks 2, 3, 16 of the names, 17 and the room. `no_movement_written`: the sheet is the
--- header and the names, 24 + 8V bytes, and bytes behind them remain.
+-- A SHEET WRITTEN FROM NO NUMBERS. `no_movement_number`: the writer checks 2, 3, 16 of the names, 17 and the room.
+-- `no_movement_written`: the sheet is the header and the names, 24 + 8V bytes, and bytes behind them remain.
 -- Assumes nothing.
 use mathlib.Core.List.{flat_map}
 use Rattle.std.proofs.Common.{ℕ, ◌*◌, arith, ◌≡◌, not, List, [], ◌∷◌, ◌++◌, append-nil, eqb, ltb, length, drop}

@@ -1,5 +1,6 @@
--- What was read is written again byte for byte: each number of the header and of a movement is put into the bytes that it was read from,
--- and the names are copied. From the end to the front, each part and what lies behind it is the rest of the sheet. Assumes nothing.
+-- What was read is written again byte for byte: each number of the header and of a movement is put into the bytes that
+-- it was read from, and the names are copied. From the end to the front, each part and what lies behind it is the rest
+-- of the sheet. Assumes nothing.
 use mathlib.Core.List.{flat_map}
 use Rattle.std.proofs.Common.{ℕ, ◌*◌, ◌%◌, ◌<◌, ◌≤◌, arith, ◌≡◌, refl, sym, ap, ◌∙◌, false, not, List, [], ◌∷◌, ◌++◌, append_assoc, le-ltb, eq-eqb, ltb, length, get_or, take, drop, take-append-drop, length-take, length-drop, drop-drop}
 use Rattle.std.proofs.lemmas.Bool.{or_parts}

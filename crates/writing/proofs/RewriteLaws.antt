@@ -1,4 +1,5 @@
--- The ways out of `rewrite`: the sheet's own number; or what was read is written, where only the room may be short, and what is written is the sheet.
+-- The ways out of `rewrite`: the sheet's own number; or what was read is written, where only the room may be short, and
+-- what is written is the sheet.
 -- Assumes nothing.
 use Rattle.std.proofs.Common.{ℕ, ◌≤◌, ◌≡◌, refl, sym, ◌∙◌, List, [], ◌∷◌, ◌++◌, ltb, map, length, take, drop, take_at}
 use Rattle.std.specs.Prelude.{Result}

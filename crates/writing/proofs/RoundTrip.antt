@@ -1,9 +1,10 @@
 -- THE ROUND TRIP OF A SHEET, in three theorems over the definitions that the contracts cite.
--- `written_reads`: reading what was written yields what was given, the rule, the counts, every movement with its age and every name.
--- `writer_leaves`: the sheet lies at the start of the slice that the writer leaves.
+-- `written_reads`: reading what was written yields what was given, the rule, the counts, every movement with its age
+-- and every name. `writer_leaves`: the sheet lies at the start of the slice that the writer leaves.
 -- `read_rewrites`: writing what was read is accepted, whatever its ages are, and yields the same bytes.
--- `rewrite` (src/lib.rt) has the last of them in its contract, of running code, which knows of its bytes what a byte is.
--- Each byte of a `u8` slice is below 256, and each number of a `u32` slice below 4,294,967,296: `Below` says so of a list. Assumes nothing.
+-- `rewrite` (src/lib.rt) has the last of them in its contract, of running code, which knows of its bytes what a byte
+-- is. Each byte of a `u8` slice is below 256, and each number of a `u32` slice below 4,294,967,296: `Below` says so of
+-- a list. Assumes nothing.
 use Rattle.std.proofs.Common.{ℕ, ◌*◌, ◌<◌, ◌≤◌, ◌≡◌, refl, List, length, take, drop}
 use Rattle.fields.specs.Layout.{name_size, sheet_size}
 use Rattle.fields.specs.Names.{short_name}
@@ -43,7 +44,8 @@ pub writer_leaves : (rule vessels : ℕ) (names numbers out : List ℕ) → writ
     → take (sheet_size vessels (count_given numbers)) (written rule vessels names numbers out) ≡ sheet_of rule vessels names numbers
 writer_leaves rule vessels names numbers out z = write_starts rule vessels _ names numbers out refl z
 
--- What writing again gives for a sheet: no refusal where there is room for it, the same bytes, from the numbers that asking yields.
+-- What writing again gives for a sheet: no refusal where there is room for it, the same bytes, from the numbers that
+-- asking yields.
 pub record Rewritten (s : List ℕ) : Type 0 where
   pub number : (room : ℕ) → length s ≤ room → write_number (rule_of s) (vessels_of s) (names_of s) (numbers_of s) room ≡ 0
   pub bytes : sheet_of (rule_of s) (vessels_of s) (names_of s) (numbers_of s) ≡ s

@@ -1,4 +1,5 @@
--- Writing on a small case: the bytes as document 01 lays them out, and the writer's numbers as one table and one theorem, with one thing wrong in each row.
+-- Writing on a small case: the bytes as document 01 lays them out, and the writer's numbers as one table and one
+-- theorem, with one thing wrong in each row.
 -- Assumes nothing.
 use mathlib.Core.List.{flat_map}
 use Rattle.std.proofs.Common.{ℕ, ◌≡◌, refl, List, [], ◌∷◌, map, set, take, replicate}

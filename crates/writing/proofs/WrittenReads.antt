@@ -1,5 +1,6 @@
--- What was written is read as it was given. A sheet is its header, then its names, then its movements. The header's numbers come back from their bytes, the names lie as they
--- were given, and each movement comes back from its twelve bytes, since its numbers fit them. Assumes nothing.
+-- What was written is read as it was given. A sheet is its header, then its names, then its movements. The header's
+-- numbers come back from their bytes, the names lie as they were given, and each movement comes back from its twelve
+-- bytes, since its numbers fit them. Assumes nothing.
 use Rattle.std.proofs.Common.{ℕ, ◌+◌, ◌*◌, ◌<◌, ◌≤◌, arith, ◌≡◌, refl, sym, ap, ◌∙◌, false, List, [], ◌++◌, append_assoc, le-ltb, length, get_or, take, drop, drop_at, drop-drop, get_or-drop}
 use lib.Seq.{take-append-le}
 use Rattle.refusal.specs.Numbers.{first}

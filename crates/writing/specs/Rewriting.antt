@@ -9,7 +9,8 @@ use Rattle.sheet.specs.Answers.{asked_number}
 abbrev pub numbers_of : List ℕ → List ℕ
 numbers_of s = numbers_in (entries_read s)
 
--- "Rewriting what was read yields the same bytes": the sheet's own number, then 19, and else the sheet's own bytes with those of the slice behind them.
+-- "Rewriting what was read yields the same bytes": the sheet's own number, then 19, and else the sheet's own bytes with
+-- those of the slice behind them.
 abbrev pub rewrite_number : List ℕ → ℕ → ℕ
 rewrite_number s room = asked_number s (19 if ltb room (length s))
 

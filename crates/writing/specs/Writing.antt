@@ -1,4 +1,5 @@
--- Writing a sheet: "Writing takes rule, V, 8V name bytes" and "5M numbers (s, d, t, q, age)". Definitions only. Assumes nothing.
+-- Writing a sheet: "Writing takes rule, V, 8V name bytes" and "5M numbers (s, d, t, q, age)". Definitions only. Assumes
+-- nothing.
 use Rattle.std.specs.Prelude.{Bool, not, ◌||◌, List, [], ◌∷◌, ◌++◌, ℕ, ◌*◌, ◌/◌, ◌%◌, eqb, ltb, length, drop}
 use Rattle.refusal.specs.Numbers.{Check, ◌if◌, first, if_zero}
 use Rattle.fields.specs.Bytes.{bytes_of}
@@ -29,7 +30,8 @@ sheet_of rule vessels names numbers =
 unfoldable pub given_off : ℕ → List ℕ → List ℕ → Bool
 given_off vessels names numbers = not (eqb (length names) (name_size * vessels)) || not (eqb (length numbers % given_size) 0)
 
--- It checks 2, 3, 16, 15, 17, 18 and 5 in each movement, 19: first the counts, then what is written, then the room for it.
+-- It checks 2, 3, 16, 15, 17, 18 and 5 in each movement, 19: first the counts, then what is written, then the room for
+-- it.
 abbrev pub count_checks : ℕ → ℕ → List ℕ → List ℕ → List Check
 count_checks rule vessels names numbers =
     open_checks rule vessels ++ (16 if given_off vessels names numbers) ∷ (15 if movements_off (count_given numbers)) ∷ []

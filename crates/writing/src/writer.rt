@@ -155,7 +155,8 @@ fn entry_bytes(e: Entry) -> [u8; ENTRY_SIZE]
     [s0, d0, a0, a1, m0, m1, m2, m3, w0, w1, w2, w3]
 }
 
-// Puts the movements given into the bytes from `at` on. Not into arrays: std's mutable chunks tell nothing of what the slice ends as.
+// Puts the movements given into the bytes from `at` on. Not into arrays: std's mutable chunks tell nothing of what the
+// slice ends as.
 #[tactic(auto, using(crate::proofs::SheetPut::entries_turn, crate::proofs::SheetPut::entries_end))]
 fn put_entries(out: &mut [u8], at: usize, movements: &[[u32; GIVEN_SIZE]])
     requires { at + entry_size * length movements.now ≤ length out.old }

@@ -1,5 +1,5 @@
--- `journal::make_known` meets its contract. The invariant is `Going`: what was answered and what is left make the whole.
--- A turn makes one call.
+-- `journal::make_known` meets its contract. The invariant is `Going`: what was answered and what is left make the
+-- whole. A turn makes one call.
 use Rattle.journal.proofs.Carrying.{Going}
 use Rattle.journal.proofs.make_known.Given as goal
 

@@ -1,4 +1,5 @@
--- `run::make_all` meets its contract. The invariant is `Making`: the book stands beside the table, and going on from movement i ends as the whole run does.
+-- `run::make_all` meets its contract. The invariant is `Making`: the book stands beside the table, and going on from
+-- movement i ends as the whole run does.
 use Rattle.lane_book.specs.LaneBook.{written}
 use Rattle.run.proofs.Making.{Making}
 use Rattle.run.proofs.make_all.Given as goal

@@ -1,4 +1,5 @@
--- `LaneBook::post` meets its contract: a transfer goes from vessel to vessel, and what posting it promises is said of the table as it would be.
+-- `LaneBook::post` meets its contract: a transfer goes from vessel to vessel, and what posting it promises is said of
+-- the table as it would be.
 use Rattle.lane_book.specs.LaneBook.{written}
 use Rattle.lane_book.proofs.Fresh.{between}
 use Rattle.lane_book.proofs.LaneBook.post.Goals as goal

@@ -1,4 +1,5 @@
--- `filling::add` meets its contract. The invariant: the pieces left can be entered, and entering them makes the report that is wanted.
+-- `filling::add` meets its contract. The invariant: the pieces left can be entered, and entering them makes the report
+-- that is wanted.
 use Rattle.std.proofs.Common.{◌≡◌}
 use Rattle.reports.specs.Scatter.{scatter, Fillable}
 use Rattle.reports.proofs.filling.add.Given as goal

@@ -1,5 +1,5 @@
--- `filling::fill_rows` meets its contract. The invariant: the rows of the vessels below v are written, and what is behind them is as it was.
--- A turn lends row v to the held report.
+-- `filling::fill_rows` meets its contract. The invariant: the rows of the vessels below v are written, and what is
+-- behind them is as it was. A turn lends row v to the held report.
 use Rattle.std.proofs.Common.{◌*◌, ◌≡◌, ◌++◌, drop}
 use Rattle.book.specs.Reports.{rows}
 use Rattle.reports.proofs.filling.fill_rows.Given as goal
