@@ -1,6 +1,6 @@
--- A motion carried in lanes is the motion on head and table. Every vessel has the book's rule, so that lanes by that one rule take what the book takes; and pieces
--- never become fewer, so that the table as it would be, written anew after each motion, is the one lent with the pieces written at the end.
--- Assumes nothing.
+-- A motion carried in lanes is the motion on head and table. Every vessel has the book's rule, so that lanes by that
+-- one rule take what the book takes; and pieces never become fewer, so that the table as it would be, written anew
+-- after each motion, is the one lent with the pieces written at the end. Assumes nothing.
 use Rattle.std.proofs.Common.{◌≡◌, refl, sym, ◌∙◌, Bool, true, false, cond, Option, List, ℕ, ◌*◌, ◌≤◌, arith, length, drop}
 use Rattle.std.proofs.lemmas.Bool.Decides.{nat_tests}
 use Rattle.table.specs.Table.{pieces_of, places_of, lay}
@@ -24,7 +24,8 @@ use Rattle.ledger.proofs.Audited.{audited_known, vessels_fit}
 use Rattle.posting.specs.Carrying.{Carriable, head_after}
 use Rattle.daybook.specs.InLanes.{InLanes, BetweenVessels}
 
-module _ (h : Head) (c : Contents) (t : List ℕ) (w : Audited h (lay c.pieces t)) (m : Motion) (f : Carriable h m) (l : InLanes h c t) (s : BetweenVessels h m) where
+module _ (h : Head) (c : Contents) (t : List ℕ) (w : Audited h (lay c.pieces t)) (m : Motion) (f : Carriable h m)
+    (l : InLanes h c t) (s : BetweenVessels h m) where
   abbrev table : List ℕ
   table = lay c.pieces t
 
@@ -81,4 +82,5 @@ module _ (h : Head) (c : Contents) (t : List ℕ) (w : Audited h (lay c.pieces t
         go true e = rw (moves.answer, e, moves.contents, e) l
         go false e =
             let had = places_fit t (length (handed m.moves r)) p ep (grind (arith, nat_tests)) in
-            rw (moves.answer, e, moves.contents, e) (record { rules = l.rules; rule = l.rule; count = refl; room = had })
+            rw (moves.answer, e, moves.contents, e) (
+            record { rules = l.rules; rule = l.rule; count = refl; room = had })

@@ -1,5 +1,5 @@
--- A daybook beside a table that is lent, and what it promises of a transfer. The table of the book is what the lent one would be, were the pieces written into it.
--- Definitions only. Assumes nothing.
+-- A daybook beside a table that is lent, and what it promises of a transfer. The table of the book is what the lent one
+-- would be, were the pieces written into it. Definitions only. Assumes nothing.
 use Rattle.std.specs.Prelude.{◌≡◌, List, ℕ, ◌≤◌, length, Result}
 use Rattle.refusal.specs.declared.Refusal.{Refusal}
 use Rattle.table.specs.Table.{lay}
@@ -21,13 +21,15 @@ pub record Stands (b : Daybook) (t : List ℕ) : Type 0 where
   pub audited : Audited b.head (written b t)
   pub kept : InLanes b.head b.kept.lanes t
 
--- What opening promises: a fresh book, which stands beside every table that has a place, with nothing to be written into it.
+-- What opening promises: a fresh book, which stands beside every table that has a place, with nothing to be written
+-- into it.
 pub record Opened (rule size : ℕ) (b : Daybook) : Type 0 where
   pub head : b.head ≡ empty_head rule size
   pub stands : (t : List ℕ) → 4 ≤ length t → Stands b t
   pub bare : (t : List ℕ) → written b t ≡ t
 
--- What a transfer promises: answer and table are those of the call, and the next one can be posted. The table that is lent stays as it is.
+-- What a transfer promises: answer and table are those of the call, and the next one can be posted. The table that is
+-- lent stays as it is.
 pub record Enters (x : Transfer) (b b' : Daybook) (t t' : List ℕ) (r : Result Applied Refusal) : Type 0 where
   pub posts : Posts b.head (post x) (written b t) (written b' t') (said b'.head r)
   pub stands : Stands b' t'

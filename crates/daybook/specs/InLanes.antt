@@ -6,7 +6,8 @@ use Rattle.book.specs.declared.Head.{Head}
 use Rattle.book.specs.declared.Motion.{Motion}
 use Rattle.book.specs.Head.{given_rules}
 
--- What lies in the lanes is what a book with this head has, and there is room for it in the table t. No rule was set, so that every vessel has the book's.
+-- What lies in the lanes is what a book with this head has, and there is room for it in the table t. No rule was set,
+-- so that every vessel has the book's.
 pub record InLanes (h : Head) (c : Contents) (t : List ℕ) : Type 0 where
   pub rules : h.rules ≡ given_rules h.rule h.vessels
   pub rule : c.rule ≡ h.rule

@@ -1,5 +1,5 @@
-// A book whose pieces lie in lanes, so that a transfer takes the time of the pieces that it moves. It stands beside a table that is lent, which is written once,
-// when the book is closed.
+// A book whose pieces lie in lanes, so that a transfer takes the time of the pieces that it moves. It stands beside a
+// table that is lent, which is written once, when the book is closed.
 #![tactic(auto)]
 
 ghost use Rattle.std.specs.Prelude.{◌≡◌};

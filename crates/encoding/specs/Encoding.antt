@@ -1,9 +1,8 @@
--- Calls in numbers. Six numbers are a call: its kind and its arguments.
--- Kind 0 is a transfer (source, destination, minute, weight, age), 1 the held report (vessel), 2 spread (origin, from, to), 4 a lift (source, minute,
--- weight, age), 5 a tip (destination, minute), 6 the setting of a rule (vessel, rule), 3 and any other the whole report. Numbers behind the arguments are
--- not looked at.
--- An age is a number of 16 bits: a list with a transfer or a lift of a larger one is refused whole, with 18.
--- Definitions only. Assumes nothing.
+-- Calls in numbers. Six numbers are a call: its kind and its arguments. Kind 0 is a transfer (source, destination,
+-- minute, weight, age), 1 the held report (vessel), 2 spread (origin, from, to), 4 a lift (source, minute, weight,
+-- age), 5 a tip (destination, minute), 6 the setting of a rule (vessel, rule), 3 and any other the whole report.
+-- Numbers behind the arguments are not looked at. An age is a number of 16 bits: a list with a transfer or a lift of a
+-- larger one is refused whole, with 18. Definitions only. Assumes nothing.
 use Rattle.std.specs.Prelude.{◌≡◌, Bool, true, false, cond, ◌||◌, List, [], ◌∷◌, ◌++◌, ℕ, zero, suc, ◌/◌, min, eqb, ltb, length, get_or, drop, Result, Ok}
 use Rattle.refusal.specs.declared.Refusal.{Refusal}
 use Rattle.refusal.specs.Refusals.{outcome_number}
@@ -28,7 +27,8 @@ report_of kind a b c = cond (eqb kind 1) (Held a) (cond (eqb kind 2) (Spread a b
 unfoldable pub listed : List ℕ → Call
 listed l =
     let kind = get_or l 0 0 in
-    cond (eqb kind 0) (Variants.Transfer (transfer_of (get_or l 1 0) (get_or l 2 0) (get_or l 3 0) (get_or l 4 0) (get_or l 5 0)))
+    cond (eqb kind 0)
+    (Variants.Transfer (transfer_of (get_or l 1 0) (get_or l 2 0) (get_or l 3 0) (get_or l 4 0) (get_or l 5 0)))
     (cond (eqb kind 4) (Variants.Lift (lift_of (get_or l 1 0) (get_or l 2 0) (get_or l 3 0) (get_or l 4 0)))
     (cond (eqb kind 5) (Variants.Tip (tip_of (get_or l 1 0) (get_or l 2 0)))
     (cond (eqb kind 6) (Variants.Setting (setting_of (get_or l 1 0) (get_or l 2 0)))
@@ -38,7 +38,8 @@ listed l =
 abbrev pub call_in : List ℕ → List ℕ → Calls.Call
 call_in l room = called (listed l) room
 
--- the age in the first six numbers, 0 where the call has none; whether it is above the largest, and whether one of the first n calls has such an age
+-- the age in the first six numbers, 0 where the call has none; whether it is above the largest, and whether one of the
+-- first n calls has such an age
 abbrev pub age_in : List ℕ → ℕ
 age_in l = let kind = get_or l 0 0 in cond (eqb kind 0) (get_or l 5 0) (cond (eqb kind 4) (get_or l 4 0) 0)
 

@@ -86,7 +86,8 @@ fn fill(groups: &[[u32; CALL_SIZE]], calls: &mut [Call])
     }
 }
 
-// Reads as many calls as there are numbers and room for, and says how many. A list with an age that is none is refused whole.
+// Reads as many calls as there are numbers and room for, and says how many. A list with an age that is none is refused
+// whole.
 pub fn read_calls(numbers: &[u32], calls: &mut [Call]) -> Result<usize, Refusal>
     ensures { Reads numbers.now calls.old calls.new result }
 {

@@ -88,7 +88,8 @@ fn make_known(
     head
 }
 
-// The calls in turn on any book. Checks 1 and 4 are made once: a book that adds up still does after every call, and where it is off every call is refused.
+// The calls in turn on any book. Checks 1 and 4 are made once: a book that adds up still does after every call, and
+// where it is off every call is refused.
 fn make_all(
     fresh: Head,
     table: &mut [u32],

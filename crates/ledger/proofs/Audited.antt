@@ -1,5 +1,5 @@
--- What is known of a book that adds up. After a call the book is known to add up again, and the table is as long as before, so that many calls in turn need
--- checks 1 and 4 once; a call that is accepted has to leave numbers of 32 bits.
+-- What is known of a book that adds up. After a call the book is known to add up again, and the table is as long as
+-- before, so that many calls in turn need checks 1 and 4 once; a call that is accepted has to leave numbers of 32 bits.
 -- Assumes nothing.
 use Rattle.std.proofs.Common.{◌≡◌, refl, ◌∙◌, List, ℕ, zero, suc, ◌≤◌, arith, length}
 use Rattle.refusal.specs.Numbers.{first, if_zero}
@@ -61,7 +61,8 @@ module _ (h : Head) (t : List ℕ) (w : Audited h t) (c : Call) where
       go zero e = z (number_same (places_of t) h t b k.on k.sound c ∙ e)
       go (suc n) e = k.light
 
-  pub audited_after : (number_of h t c ≡ 0 → SizedBook ((meaning c).next b)) → Audited (call_on h t c).head (call_on h t c).table
+  pub audited_after : (number_of h t c ≡ 0 → SizedBook ((meaning c).next b))
+      → Audited (call_on h t c).head (call_on h t c).table
   audited_after z =
       let s = in_step (places_of t) h t b k.on k.sound c in
       record {

@@ -1,13 +1,9 @@
 // What keeps a book's pieces: they lie in the lent table, or beside it until they are written into it.
 ghost use Rattle.std.specs.Prelude.{List, ℕ, ⊤};
-ghost use Rattle.table.specs.Table.{places_of};
-ghost use Rattle.moving.specs.Applied.{Moves};
 ghost use Rattle.book.specs.declared.Head.{Head};
 ghost use Rattle.book.specs.declared.Motion.{Motion};
-ghost use Rattle.book.specs.Head.{book_of};
-ghost use Rattle.book.specs.Motion.{takes};
 ghost use Rattle.ledger.specs.Audited.{Audited};
-ghost use Rattle.posting.specs.Carrying.{Carriable, head_after};
+ghost use Rattle.posting.specs.Carrying.{Carriable, head_after, MovesBy};
 
 use book::{Head, Motion};
 use ledger::{balances, rules};
@@ -27,12 +23,13 @@ pub trait Keeping {
     // What carrying may do to the lent table.
     ghost leaves: { List ℕ → List ℕ → Type 0 };
 
-    // Moves the pieces of a motion and says what was done, or answers `None` where the pieces afterwards would exceed the places, and moves nothing.
+    // Moves the pieces of a motion and says what was done, or answers `None` where the pieces afterwards would exceed
+    // the places, and moves nothing.
     fn carry(&mut self, head: &Head, table: &mut [u32], m: Motion) -> Option<Applied>
         requires known { Audited head.now (written self.old table.old) }
         requires carriable { Carriable head.now m }
         requires kept { keeps self.old head.now table.old × carries head.now m }
-        ensures moves { Moves (places_of (written self.old table.old)) m.moves (takes (book_of head.now (written self.old table.old)) m) (written self.old table.old) (written self.new table.new) result }
+        ensures moves { MovesBy head.now m (written self.old table.old) (written self.new table.new) result }
         ensures kept { keeps self.new (head_after head.now m result) table.new }
         ensures leaves { leaves table.old table.new };
 

@@ -9,7 +9,7 @@ ghost use Rattle.book.specs.Motion.{of_head, motion};
 ghost use Rattle.book.specs.Calls.{Posting, terms, enter, post, lift};
 ghost use Rattle.ledger.specs.Audited.{Audited};
 ghost use Rattle.posting.specs.Carrying.{Carriable};
-ghost use Rattle.posting.specs.Posting.{said, Posts, Tips, PostsKnown};
+ghost use Rattle.posting.specs.Posting.{said, Posts, Tips, PostsKnown, Passing};
 
 use book::{Head, Lift, Motion, Reply, Tip, Transfer, Transferred};
 use keeping::Keeping;
@@ -49,8 +49,9 @@ pub fn post_known<K: Keeping, P: Posting>(
 ) -> Result<Applied, Refusal>
     requires known { Audited head.old (K.written keeping.old table.old) }
     requires kept { K.keeps keeping.old head.old table.old }
-    requires carried { first ((terms (P.asked p)).checks (of_head head.old)) ≡ 0 → K.carries head.old (motion (terms (P.asked p)) (of_head head.old)) }
-    ensures posts { PostsKnown (P.asked p) head.old head.new (K.written keeping.old table.old) (K.written keeping.new table.new) result }
+    requires carried { Passing (P.asked p) head.old (K.carries head.old) }
+    ensures posts { PostsKnown (P.asked p) head.old head.new
+        (K.written keeping.old table.old) (K.written keeping.new table.new) result }
     ensures kept { K.keeps keeping.new head.new table.new }
     ensures leaves { K.leaves table.old table.new }
 {
@@ -69,7 +70,8 @@ fn post_checked<P: Posting>(head: &mut Head, table: &mut [u32], p: P) -> Result<
     post_known(head, table, &mut Workspace::new(), p)
 }
 
-// What is answered to a posting that left this head. A refusal has its number, the head as it was, and all other numbers 0.
+// What is answered to a posting that left this head. A refusal has its number, the head as it was, and all other
+// numbers 0.
 fn answer(head: Head, posted: Result<Applied, Refusal>) -> Transferred
     ensures { result ≡ said head posted }
 {

@@ -1,4 +1,5 @@
--- `Daybook::post` meets its contract: a transfer goes from vessel to vessel, and what posting it promises is said of the table as it would be.
+-- `Daybook::post` meets its contract: a transfer goes from vessel to vessel, and what posting it promises is said of
+-- the table as it would be.
 use Rattle.daybook.specs.Daybook.{written}
 use Rattle.daybook.proofs.Fresh.{between}
 use Rattle.daybook.proofs.Daybook.post.Goals as goal
