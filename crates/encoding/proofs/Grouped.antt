@@ -18,7 +18,8 @@ groups = first_chunks call_size
 first_groups : (n m : ℕ) (l : List ℕ) → n ≤ m → take n (groups m l) ≡ groups n l
 first_groups zero m l h = refl
 first_groups (suc n) zero l h = absurd (omega arith)
-first_groups (suc n) (suc m) l h = ap (λ (k : List (List ℕ)). take call_size l ∷ k) (first_groups n m (drop call_size l) (omega arith))
+first_groups (suc n) (suc m) l h =
+    ap (λ (k : List (List ℕ)). take call_size l ∷ k) (first_groups n m (drop call_size l) (omega arith))
 
 count_groups : (n : ℕ) (l : List ℕ) → length (groups n l) ≡ n
 count_groups zero l = refl
@@ -34,7 +35,8 @@ module _ (l : List ℕ) where
 
   group_call : listed (take call_size l) ≡ listed l
   unfolding listed
-  group_call = rw (six 0 (omega arith), six 1 (omega arith), six 2 (omega arith), six 3 (omega arith), six 4 (omega arith), six 5 (omega arith)) refl
+  group_call =
+      rw (six 0 (omega arith), six 1 (omega arith), six 2 (omega arith), six 3 (omega arith), six 4 (omega arith), six 5 (omega arith)) refl
 
 grouped_ages : (n : ℕ) (l : List ℕ) → list_any age_off (groups n l) ≡ ages_off n l
 unfolding ages_off
@@ -44,10 +46,12 @@ grouped_ages (suc n) l = ap₂ (λ (a b : Bool). a || b) (group_age l) (grouped_
 grouped_calls : (n : ℕ) (l : List ℕ) → map listed (groups n l) ≡ calls_in n l
 unfolding calls_in
 grouped_calls zero l = refl
-grouped_calls (suc n) l = ap₂ (λ (c : Call) (cs : List Call). c ∷ cs) (group_call l) (grouped_calls n (drop call_size l))
+grouped_calls (suc n) l =
+    ap₂ (λ (c : Call) (cs : List Call). c ∷ cs) (group_call l) (grouped_calls n (drop call_size l))
 
 -- `read_calls`, at its returns: the groups that it reads are the first, as many as there is room for
-module _ (l : List ℕ) (cs : List Call) (gs : List (List ℕ)) (n : ℕ) (ea : gs ≡ groups (length l / call_size) l) (en : n ≡ min (length gs) (length cs)) where
+module _ (l : List ℕ) (cs : List Call) (gs : List (List ℕ)) (n : ℕ) (ea : gs ≡ groups (length l / call_size) l)
+    (en : n ≡ min (length gs) (length cs)) where
   counted : n ≡ count_calls l (length cs)
   counted = en ∙ ap (λ (k : ℕ). min k (length cs)) (ap length ea ∙ count_groups (length l / call_size) l)
 
@@ -81,7 +85,8 @@ module _ (l : List ℕ) (cs : List Call) (gs : List (List ℕ)) (n : ℕ) (ea : 
     pub fill_ready : (length (take n gs) ≤ length cs) × (list_any age_off (take n gs) ≡ false)
     fill_ready = (omega (arith, size, en), none_off)
 
-    pub read_done : (cs' : List Call) → cs' ≡ map listed (take n gs) ++ drop (length (take n gs)) cs → Reads l cs cs' (Ok n)
+    pub read_done : (cs' : List Call) → cs' ≡ map listed (take n gs) ++ drop (length (take n gs)) cs
+        → Reads l cs cs' (Ok n)
     read_done cs' ec =
         let a : ages_off (count_calls l (length cs)) l ≡ false = rw (← the_ages) none_off in
         record {

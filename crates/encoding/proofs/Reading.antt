@@ -24,16 +24,19 @@ unfolding call_read
 read_on l c e = grind (arith, common_steps)
 
 -- the groups before a call have no age that is off, and no more have those up to it
-pub scan_turn : (calls : List (List ℕ)) (i : ℕ) → i < length calls → list_any age_off (take i calls) ≡ false → (c : Call) → call_read (get_or calls i []) ≡ Ok c
+pub scan_turn : (calls : List (List ℕ)) (i : ℕ) → i < length calls → list_any age_off (take i calls) ≡ false
+    → (c : Call) → call_read (get_or calls i []) ≡ Ok c
     → list_any age_off (take (i + 1) calls) ≡ false
 scan_turn calls i h s c e = list_any_more age_off calls i [] h ∙ rw (s, (read_on _ c e).0) refl
 
-pub scan_found : (calls : List (List ℕ)) (i : ℕ) → i < length calls → (why : Refusal) → call_read (get_or calls i []) ≡ Err why
+pub scan_found : (calls : List (List ℕ)) (i : ℕ) → i < length calls → (why : Refusal)
+    → call_read (get_or calls i []) ≡ Err why
     → number_of why ≡ cond (list_any age_off calls) 18 0
 scan_found calls i h why e = let q = read_off _ why e in rw (list_any_at age_off calls i [] h q.0, q.1) refl
 
 -- each of the calls, where none is off, is read well
-pub reads_well : (calls : List (List ℕ)) → list_any age_off calls ≡ false → (i : ℕ) → i < length calls → IsOk (call_read (get_or calls i []))
+pub reads_well : (calls : List (List ℕ)) → list_any age_off calls ≡ false → (i : ℕ) → i < length calls
+    → IsOk (call_read (get_or calls i []))
 unfolding call_read
 reads_well [] h i q = absurd (omega arith)
 reads_well (six ∷ calls) h zero q = rw (or_parts (age_off six) _ h).0 refl
@@ -46,16 +49,20 @@ pub record Filling (groups : List (List ℕ)) (cs₀ cs : List Call) (i : ℕ) :
   pub size : length cs ≡ length cs₀
 
 module _ {groups : List (List ℕ)} {cs₀ cs : List Call} {i : ℕ} (f : Filling groups cs₀ cs i) where
-  pub filled_next : i < length groups → length groups ≤ length cs₀ → {c : Call} → call_read (get_or groups i []) ≡ Ok c → Filling groups cs₀ (set cs i c) (i + 1)
+  pub filled_next : i < length groups → length groups ≤ length cs₀ → {c : Call} → call_read (get_or groups i []) ≡ Ok c
+      → Filling groups cs₀ (set cs i c) (i + 1)
   filled_next q m {c = c} e =
       let long : i < length cs = rw f.size (omega arith) in
       record {
-        left = rw (add-one, take-suc-set cs i c long, append_assoc, (read_on _ c e).1) (rw (drop-cons groups i [] q) at f.left);
-        unwritten = drop-set-lt (i + 1) cs i c (omega arith) ∙ sym (drop-drop 1 i cs) ∙ ap (drop 1) f.unwritten ∙ drop-drop 1 i cs₀;
+        left =
+            rw (add-one, take-suc-set cs i c long, append_assoc, (read_on _ c e).1) (rw (drop-cons groups i [] q) at f.left);
+        unwritten =
+            drop-set-lt (i + 1) cs i c (omega arith) ∙ sym (drop-drop 1 i cs) ∙ ap (drop 1) f.unwritten ∙ drop-drop 1 i cs₀;
         size = length-set cs i c ∙ f.size;
       }
 
   pub filled : i ≡ length groups → cs ≡ map listed groups ++ drop (length groups) cs₀
   filled e =
-      let all : take i cs ≡ map listed groups = sym (append-nil (take i cs)) ∙ (rw (drop_of_length-le groups {i = i} (omega (arith, e))) at f.left) in
+      let all : take i cs ≡ map listed groups =
+      sym (append-nil (take i cs)) ∙ (rw (drop_of_length-le groups {i = i} (omega (arith, e))) at f.left) in
       rw (← all, ← e, ← f.unwritten) (sym (take-append-drop i cs))

@@ -28,7 +28,8 @@ report_of kind a b c = cond (eqb kind 1) (Held a) (cond (eqb kind 2) (Spread a b
 unfoldable pub listed : List ℕ → Call
 listed l =
     let kind = get_or l 0 0 in
-    cond (eqb kind 0) (Variants.Transfer (transfer_of (get_or l 1 0) (get_or l 2 0) (get_or l 3 0) (get_or l 4 0) (get_or l 5 0)))
+    cond (eqb kind 0)
+    (Variants.Transfer (transfer_of (get_or l 1 0) (get_or l 2 0) (get_or l 3 0) (get_or l 4 0) (get_or l 5 0)))
     (cond (eqb kind 4) (Variants.Lift (lift_of (get_or l 1 0) (get_or l 2 0) (get_or l 3 0) (get_or l 4 0)))
     (cond (eqb kind 5) (Variants.Tip (tip_of (get_or l 1 0) (get_or l 2 0)))
     (cond (eqb kind 6) (Variants.Setting (setting_of (get_or l 1 0) (get_or l 2 0)))

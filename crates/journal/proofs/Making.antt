@@ -28,7 +28,8 @@ module _ {v : Posting} {h h' : Head} {t t' : List ℕ} {a : Result Applied Refus
       go (Ok y) e = refl
       go (Err why) e = refl
 
-  pub posted : (r : Result (Unit {0}) Refusal) → outcome_number r ≡ outcome_number a → (room : List ℕ) → Makes (enter v) h h' t t' room room r
+  pub posted : (r : Result (Unit {0}) Refusal) → outcome_number r ≡ outcome_number a → (room : List ℕ)
+      → Makes (enter v) h h' t t' room room r
   posted r e room = record {
     number = e ∙ number_is;
     head = go a refl ∙ ap (λ (z : Transferred). z.head) p.posts.answer;
@@ -42,7 +43,8 @@ module _ {v : Posting} {h h' : Head} {t t' : List ℕ} {a : Result Applied Refus
       go (Err why) e = refl
 
 -- a rule is set
-pub set : {h h' : Head} {t r : List ℕ} {z : Result (Unit {0}) Refusal} {s : Setting} → Audited h t → Sets s h h' t z → Makes (set_rule s) h h' t t r r z
+pub set : {h h' : Head} {t r : List ℕ} {z : Result (Unit {0}) Refusal} {s : Setting} → Audited h t → Sets s h h' t z
+    → Makes (set_rule s) h h' t t r r z
 set {h = h} {t = t} {s = s} w p =
     let k = audited_known h t w in
     let after = audited_after h t w (set_rule s) (λ e. record { light = k.light.light; tally = k.light.tally }) in
@@ -55,6 +57,8 @@ set {h = h} {t = t} {s = s} w p =
     }
 
 -- a report is asked
-pub asked : {h : Head} {t r r' : List ℕ} {z : Result (Unit {0}) Refusal} {q : Report} → Audited h t → Tells h q t r r' z → Makes (ask q r) h h t t r r' z
+pub asked : {h : Head} {t r r' : List ℕ} {z : Result (Unit {0}) Refusal} {q : Report} → Audited h t
+    → Tells h q t r r' z → Makes (ask q r) h h t t r r' z
 asked {h = h} {t = t} {r = r} {q = q} w p =
-    record { number = p.number; head = sym (asked_nothing h t q r).0; table = sym (asked_nothing h t q r).1; room = p.room; audited = w }
+    let same = asked_nothing h t q r in
+    record { number = p.number; head = sym same.0; table = sym same.1; room = p.room; audited = w }

@@ -71,22 +71,28 @@ pub record MakesAll (calls : List Call) (h : Head) (t a r t' a' r' : List ℕ) (
   pub answers : a' ≡ (carried calls h t r).numbers ++ drop (length calls) a
   pub room : r' ≡ (carried calls h t r).room
 
--- so many are made as there is room for answers
-abbrev pub made : List Call → List ℕ → List Call
-made calls answers = take (min (length calls) (length answers)) calls
+-- so many are made: as many as there is room for answers
+abbrev pub count : List Call → List ℕ → ℕ
+count calls answers = min (length calls) (length answers)
 
--- What carrying out a list of calls promises: with the rule and V that were given, the calls, the three lent slices
--- before, and the answer and the slices after.
-pub record CarriesOut (rule size : ℕ) (calls : List Call) (t answers room : List ℕ) (r : Reply) (t' answers' room' : List ℕ) : Type 0 where
+abbrev pub made : List Call → List ℕ → List Call
+made calls answers = take (count calls answers) calls
+
+-- What carrying out a list of calls promises: with the rule and V that were given, the calls, the three lent slices before, and
+-- the answer and the slices after.
+pub record CarriesOut (rule size : ℕ) (calls : List Call) (t answers room : List ℕ)
+    (r : Reply) (t' answers' room' : List ℕ) : Type 0 where
   -- a list for which no book is opened leaves all as it was
-  pub refused : (first (open_checks rule size) ≡ 0 → ⊥) → (r ≡ not_opened (first (open_checks rule size))) × (t' ≡ t) × (answers' ≡ answers) × (room' ≡ room)
+  pub refused : (first (open_checks rule size) ≡ 0 → ⊥)
+      → (r ≡ not_opened (first (open_checks rule size))) × (t' ≡ t) × (answers' ≡ answers) × (room' ≡ room)
   -- else the calls are made on a fresh book
   pub done : first (open_checks rule size) ≡ 0
       → let k = carried (made calls answers) (opening rule size).head t room in
-      (r ≡ record { number = 0; head = k.head }) × (t' ≡ k.table) × (answers' ≡ k.numbers ++ drop (min (length calls) (length answers)) answers) × (room' ≡ k.room)
+      (r ≡ record { number = 0; head = k.head }) × (t' ≡ k.table)
+      × (answers' ≡ k.numbers ++ drop (count calls answers) answers) × (room' ≡ k.room)
   -- what was left and answered is that of their journal, and demand 3 holds of it
   pub demand : first (open_checks rule size) ≡ 0
       → let cs = lent (made calls answers) (opening rule size).head t room in
       let j = calls_on (opening rule size).head t cs in
-      (r ≡ record { number = 0; head = j.head }) × (t' ≡ j.table) × (answers' ≡ map (λ e. e.number) j.log ++ drop (min (length calls) (length answers)) answers)
-      × Demand3 rule size t cs j
+      (r ≡ record { number = 0; head = j.head }) × (t' ≡ j.table)
+      × (answers' ≡ map (λ e. e.number) j.log ++ drop (count calls answers) answers) × Demand3 rule size t cs j

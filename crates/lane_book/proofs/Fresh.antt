@@ -29,7 +29,8 @@ module _ (rule size : ℕ) (e : first (open_checks rule size) ≡ 0) where
   pub few_vessels : size ≤ most_vessels
   few_vessels = (openable rule size e).few_vessels
 
-  pub opened : (h : Head) → h ≡ empty_head rule size → (c : Contents) → c ≡ record { rule = rule; pieces = [] } → Opened rule size (record { head = h; kept = record { lanes = c } })
+  pub opened : (h : Head) → h ≡ empty_head rule size → (c : Contents) → c ≡ record { rule = rule; pieces = [] }
+      → Opened rule size (record { head = h; kept = record { lanes = c } })
   unfolding written
   opened h eh c ec =
       rw (eh, ec) (record {
@@ -42,5 +43,6 @@ module _ (rule size : ℕ) (e : first (open_checks rule size) ≡ 0) where
       })
 
 -- a transfer that passes its checks goes from vessel to vessel
-pub between : (h : Head) (x : Transfer) → first ((transfer_terms x).checks (of_head h)) ≡ 0 → BetweenVessels h (motion (transfer_terms x) (of_head h))
+pub between : (h : Head) (x : Transfer) → first ((transfer_terms x).checks (of_head h)) ≡ 0
+    → BetweenVessels h (motion (transfer_terms x) (of_head h))
 between h x z = let f = fit (of_head h) x z in record { from_vessel = f.source_in; to_vessel = f.destination_in }

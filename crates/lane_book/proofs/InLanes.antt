@@ -26,7 +26,8 @@ use Rattle.motions.specs.Carrying.{Carriable, head_after}
 use Rattle.book.proofs.Audited.{audited_known, vessels_fit}
 use Rattle.lane_book.specs.InLanes.{InLanes, BetweenVessels}
 
-module _ (h : Head) (c : Contents) (t : List ℕ) (w : Audited h (lay c.pieces t)) (m : Motion) (f : Carriable h m) (l : InLanes h c t) (s : BetweenVessels h m) where
+module _ (h : Head) (c : Contents) (t : List ℕ) (w : Audited h (lay c.pieces t)) (m : Motion) (f : Carriable h m)
+    (l : InLanes h c t) (s : BetweenVessels h m) where
   abbrev table : List ℕ
   table = lay c.pieces t
 
@@ -83,4 +84,5 @@ module _ (h : Head) (c : Contents) (t : List ℕ) (w : Audited h (lay c.pieces t
         go true e = rw (moves.answer, e, moves.contents, e) l
         go false e =
             let had = places_fit t (length (handed m.moves r)) p ep (grind (arith, nat_tests)) in
-            rw (moves.answer, e, moves.contents, e) (record { rules = l.rules; rule = l.rule; count = refl; room = had })
+            rw (moves.answer, e, moves.contents, e) (
+            record { rules = l.rules; rule = l.rule; count = refl; room = had })

@@ -20,7 +20,8 @@ use Rattle.ledger.specs.Setting.{Sets}
 use Rattle.book.proofs.Audited.{passed}
 
 -- a setting that passes its checks is of a vessel that the head has
-pub set_inside : (size : ℕ) (s : Setting) → size ≤ most_vessels → 0 ≡ first (setting_checks size s) → s.vessel < most_vessels
+pub set_inside : (size : ℕ) (s : Setting) → size ≤ most_vessels → 0 ≡ first (setting_checks size s)
+    → s.vessel < most_vessels
 set_inside size s few e = let f = setting_fit size s (sym e) in omega (arith, f.vessel_in)
 
 module _ (h : Head) (t : List ℕ) (s : Setting) where

@@ -41,20 +41,24 @@ module _ (h : Head) (t : List ℕ) (w : Audited h t) (m : Motion) where
   -- the next head's balances are what the holders have afterwards, so that it is the head of the book afterwards
   module _ (source_in : m.moves.source < most_holders) (destination_in : m.moves.destination < most_holders) where
     next_match : Matches (holdings (shifted h m.moves.source (m.moves.weight - r.born) m.moves.destination m.moves.weight)) (handed m.moves r)
-    next_match = shift_matches h b.pieces (handed m.moves r) m.moves.source _ m.moves.destination _ source_in destination_in k.matches after
+    next_match =
+        shift_matches h b.pieces (handed m.moves r) m.moves.source _ m.moves.destination _ source_in destination_in k.matches after
 
-    pub next_head_is : Holders h.vessels (pieces_after b m) → next_head h m (accepted m.moves r) ≡ head_of (book_after b m)
+    pub next_head_is : Holders h.vessels (pieces_after b m)
+        → next_head h m (accepted m.moves r) ≡ head_of (book_after b m)
     unfolding takes with_balance
     next_head_is u =
         let s = shifted h m.moves.source (m.moves.weight - r.born) m.moves.destination m.moves.weight in
-        let e = matches_balances h.vessels s.balances s.scale (pieces_after b m) u (long_balances s _ next_match) next_match in
+        let e =
+        matches_balances h.vessels s.balances s.scale (pieces_after b m) u (long_balances s _ next_match) next_match in
         rw (e.0, e.1)
 
   -- what its checks see to
   module _ (f : Carriable h m) where
     shifts : Shiftable h m.moves.source (m.moves.weight - r.born) m.moves.destination m.moves.weight
     shifts =
-        let kept = shift_there h m.moves.source (balance_at h m.moves.source - (m.moves.weight - r.born)) m.moves.destination f.apart in
+        let kept =
+        shift_there h m.moves.source (balance_at h m.moves.source - (m.moves.weight - r.born)) m.moves.destination f.apart in
         grind (arith, born_is, k.balance m.moves.source, kept)
 
     -- what the source holds is its balance

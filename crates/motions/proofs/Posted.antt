@@ -53,7 +53,8 @@ module _ (v : Posting) (h : Head) (t : List ℕ) where
   refusal n e nz = grind (arith, refused_on h t c n e nz)
 
   -- refused by 1 or 4
-  pub off_posts : (why : Refusal) → Refusals.number_of why ≡ first (book_checks h t) → (q : Result Applied Refusal) → IsErrAnd q (λ (other : Refusal). other ≡ why)
+  pub off_posts : (why : Refusal) → Refusals.number_of why ≡ first (book_checks h t) → (q : Result Applied Refusal)
+      → IsErrAnd q (λ (other : Refusal). other ≡ why)
       → Posts h c t t (said h q)
   off_posts why e q eq = rw (is_refusal q why eq) (refusal _ (off_number h t c _ e (some_number why)) (some_number why))
 
@@ -87,13 +88,16 @@ module _ (v : Posting) (h : Head) (t : List ℕ) where
         let f = k.sound.fits in
         number_is ∙ rw checked_is (grind (arith, nat_tests, posted_own p (proper v) (length t) b, after_length b m, whole p (proper v) (length t) b))
 
-    still : (n : ℕ) → number_of h t c ≡ n → (n ≡ 0 → ⊥) → (q : Result Applied Refusal) → said h q ≡ refused_with h n → PostsKnown v h h t t q
+    still : (n : ℕ) → number_of h t c ≡ n → (n ≡ 0 → ⊥) → (q : Result Applied Refusal) → said h q ≡ refused_with h n
+        → PostsKnown v h h t t q
     still n e nz q eq = record { posts = rw eq (refusal n e nz); audited = w }
 
     -- refused by a check of its own
-    pub post_refused : (why : Refusal) → Refusals.number_of why ≡ checked → (q : Result Applied Refusal) → IsErrAnd q (λ (other : Refusal). other ≡ why) → PostsKnown v h h t t q
+    pub post_refused : (why : Refusal) → Refusals.number_of why ≡ checked → (q : Result Applied Refusal)
+        → IsErrAnd q (λ (other : Refusal). other ≡ why) → PostsKnown v h h t t q
     post_refused why e q eq =
-        let u : number_of h t c ≡ Refusals.number_of why = decided ∙ rw (← e) (go (Refusals.number_of why) (some_number why)) in
+        let u : number_of h t c ≡ Refusals.number_of why =
+        decided ∙ rw (← e) (go (Refusals.number_of why) (some_number why)) in
         still _ u (some_number why) q (ap (said h) (is_refusal q why eq))
       where
         go : (n : ℕ) → (n ≡ 0 → ⊥) → if_zero n (cond full_now 11 0) n ≡ n
@@ -110,7 +114,8 @@ module _ (v : Posting) (h : Head) (t : List ℕ) where
       by_place = decided ∙ rw (sym z)
 
       -- there was no place
-      pub post_full : (why : Refusal) → Err why ≡ ok_or o TableFull → (q : Result Applied Refusal) → IsErrAnd q (λ (other : Refusal). other ≡ why) → PostsKnown v h h t t' q
+      pub post_full : (why : Refusal) → Err why ≡ ok_or o TableFull → (q : Result Applied Refusal)
+          → IsErrAnd q (λ (other : Refusal). other ≡ why) → PostsKnown v h h t t' q
       unfolding applied table_left
       post_full why ew q eq = go full_now refl
         where
@@ -144,15 +149,21 @@ module _ (v : Posting) (h : Head) (t : List ℕ) where
         unfolding applied table_left takes
         post_made h' eh =
             let o' = accepted_on h t c number_zero in
-            let s = (keeps (length t) b c k.sound (sym (number_same (length t) h t b k.on k.sound c) ∙ number_zero)).sound.sound in
+            let s =
+            (keeps (length t) b c k.sound (sym (number_same (length t) h t b k.on k.sound c) ∙ number_zero)).sound.sound in
             let u : Holders h.vessels (pieces_after b m) = all_map (λ q g. g.holder_in) s in
             let i = next_head_is h t w m (rw n_is at f.source_in) (rw n_is at f.destination_in) u in
             let mo : Moves (places_of t) m.moves (takes b m) t t' o = rw n_is at moves in
             let ae : a ≡ accepted m.moves (takes b m) = grind (arith, mo.answer, had_place) in
-            let he : h' ≡ head_of (book_after b m) = eh ∙ ap (λ (x : Motion). next_head h x a) n_is ∙ ap (next_head h m) ae ∙ i in
-            let posts : Posts h c t t' (said h' (Ok a)) = record { answer = rw o' (rw (he, ae) refl); table = rw o' (mo.table ∙ rw had_place) } in
-            record { posts = posts; audited = rw (ap (λ (r : Transferred). r.head) posts.answer, posts.table) (audited_after h t w c (λ e. sized)) }
+            let he : h' ≡ head_of (book_after b m) =
+            eh ∙ ap (λ (x : Motion). next_head h x a) n_is ∙ ap (next_head h m) ae ∙ i in
+            let posts : Posts h c t t' (said h' (Ok a)) =
+            record { answer = rw o' (rw (he, ae) refl); table = rw o' (mo.table ∙ rw had_place) } in
+            let after = audited_after h t w c (λ e. sized) in
+            record { posts = posts; audited = rw (ap (λ (r : Transferred). r.head) posts.answer, posts.table) after }
 
 -- a tip's answer is less
-pub tips : (h : Head) (y : Tip) (t t' : List ℕ) (r : Transferred) (z : Reply) → Posts h (tip y) t t' r → z ≡ record { number = r.number; head = r.head } → Tips h y t t' z
-tips h y t t' r z p e = record { answer = e ∙ ap (λ (a : Transferred). record { number = a.number; head = a.head }) p.answer; table = p.table }
+pub tips : (h : Head) (y : Tip) (t t' : List ℕ) (r : Transferred) (z : Reply) → Posts h (tip y) t t' r
+    → z ≡ record { number = r.number; head = r.head } → Tips h y t t' z
+tips h y t t' r z p e =
+    record { answer = e ∙ ap (λ (a : Transferred). record { number = a.number; head = a.head }) p.answer; table = p.table }

@@ -2,13 +2,16 @@
 -- Definitions only. Assumes nothing.
 use Rattle.std.specs.Prelude.{◌≡◌, List, ℕ, Result, Ok, Err}
 use Rattle.refusal.specs.declared.Refusal.{Refusal}
+use Rattle.refusal.specs.Numbers.{first}
 use Rattle.refusal.specs.Refusals.{number_of}
 use Rattle.taking.specs.declared.Applied.{Applied}
 use Rattle.book.specs.declared.Head.{Head}
 use Rattle.book.specs.declared.Transferred.{Transferred}
 use Rattle.book.specs.declared.Tip.{Tip}
 use Rattle.book.specs.declared.Reply.{Reply}
-use Rattle.book.specs.Calls.{Posting, Call, enter, tip}
+use Rattle.book.specs.declared.Motion.{Motion}
+use Rattle.book.specs.Motion.{of_head, motion}
+use Rattle.book.specs.Calls.{Posting, terms, Call, enter, tip}
 use Rattle.book.specs.Memory.{call_on}
 use Rattle.book.specs.Memory as Memory
 use Rattle.book.specs.Memory.{Audited}
@@ -36,3 +39,7 @@ pub record Tips (h : Head) (y : Tip) (t t' : List ℕ) (r : Reply) : Type 0 wher
 pub record PostsKnown (v : Posting) (h h' : Head) (t t' : List ℕ) (r : Result Applied Refusal) : Type 0 where
   pub posts : Posts h (enter v) t t' (said h' r)
   pub audited : Audited h' t'
+
+-- Where no check of a posting applies, this holds of the motion that it is.
+abbrev pub Passing : Posting → Head → (Motion → Type 0) → Type 0
+Passing v h P = first ((terms v).checks (of_head h)) ≡ 0 → P (motion (terms v) (of_head h))

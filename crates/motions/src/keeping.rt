@@ -1,13 +1,9 @@
 // What keeps a book's pieces: they lie in the lent table, or beside it until they are written into it.
 ghost use Rattle.std.specs.Prelude.{List, ℕ};
-ghost use Rattle.table.specs.Table.{places_of};
-ghost use Rattle.taking.specs.Applied.{Moves};
 ghost use Rattle.book.specs.declared.Head.{Head};
 ghost use Rattle.book.specs.declared.Motion.{Motion};
-ghost use Rattle.book.specs.Head.{book_of};
-ghost use Rattle.book.specs.Motion.{takes};
 ghost use Rattle.book.specs.Memory.{Audited};
-ghost use Rattle.motions.specs.Carrying.{Carriable, head_after};
+ghost use Rattle.motions.specs.Carrying.{Carriable, head_after, MovesBy};
 
 use book::{Head, Motion};
 use taking::Applied;
@@ -32,7 +28,7 @@ pub trait Keeping {
         requires known { Audited head.now (written self.old table.old) }
         requires carriable { Carriable head.now m }
         requires kept { keeps self.old head.now table.old × carries head.now m }
-        ensures moves { Moves (places_of (written self.old table.old)) m.moves (takes (book_of head.now (written self.old table.old)) m) (written self.old table.old) (written self.new table.new) result }
+        ensures moves { MovesBy head.now m (written self.old table.old) (written self.new table.new) result }
         ensures kept { keeps self.new (head_after head.now m result) table.new }
         ensures leaves { leaves table.old table.new };
 

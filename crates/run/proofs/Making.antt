@@ -39,11 +39,14 @@ module _ (s : List ℕ) (h₀ : Head) (t₀ : List ℕ) (b : LaneBook) (t : List
   made_refused why e n en =
       rw en (going_stop s h₀ t₀ b.head (written b t) even i g.going header told (refused_with b'.head (number_of why)) (written b' t') q (rw e at posts_here) (some_number why))
 
-  pub made_on : (a : Applied) → r ≡ Ok a → (one : ℕ) → (one ≡ if_zero (a.split + a.born) 1 0) × (one ≤ 1) → Making s h₀ t₀ b' t' (even + one) (i + 1)
+  pub made_on : (a : Applied) → r ≡ Ok a → (one : ℕ) → (one ≡ if_zero (a.split + a.born) 1 0) × (one ≤ 1)
+      → Making s h₀ t₀ b' t' (even + one) (i + 1)
   made_on a e one eo =
       record { going = going_next s h₀ t₀ b.head (written b t) even i g.going header told (said b'.head (Ok a)) (written b' t') q (rw e at posts_here) refl one eo; stands = enters.stands }
 
 -- a run on a fresh book
-pub made_fresh : (s t t' : List ℕ) (header : Header) → header ≡ header_numbers s → (b b' : LaneBook) → Opened header.rule header.vessels b → (r : Ran)
-    → Gives (run_from 0 0 b.head (written b t) (transfers_of s)) (written b' t') r → Gives (run_from 0 0 (empty_head (rule_of s) (vessels_of s)) t (transfers_of s)) (written b' t') r
+pub made_fresh : (s t t' : List ℕ) (header : Header) → header ≡ header_numbers s → (b b' : LaneBook)
+    → Opened header.rule header.vessels b → (r : Ran)
+    → Gives (run_from 0 0 b.head (written b t) (transfers_of s)) (written b' t') r
+    → Gives (run_from 0 0 (empty_head (rule_of s) (vessels_of s)) t (transfers_of s)) (written b' t') r
 made_fresh s t t' header told b b' o r g = let o' = rw told at o in rw (o'.bare t, o'.head) at g

@@ -4,7 +4,8 @@ use Rattle.journal.proofs.Carrying.{going_next, going_end}
 use Rattle.journal.proofs.make_known.Goals as goal
 
 pub loop-i-preserved : goal.loop-i-preserved
-loop-i-preserved c = going_next c.loop-i.invariant _ c.loop-i-test.true c.requires.1 c.make.ensures _ c.number_of.ensures
+loop-i-preserved c =
+    going_next c.loop-i.invariant _ c.loop-i-test.true c.requires.1 c.make.ensures _ c.number_of.ensures
 
 pub returns : goal.returns
 returns c = going_end c.loop-i.invariant (omega arith)

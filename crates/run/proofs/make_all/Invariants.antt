@@ -5,4 +5,5 @@ use Rattle.run.proofs.Making.{Making}
 use Rattle.run.proofs.make_all.Given as goal
 
 abbrev pub invariant-loop-i : goal.invariant-loop-i
-invariant-loop-i l = Making l.sheet l.initial.book.head (written l.initial.book l.initial.table) l.book l.table l.even l.i
+invariant-loop-i l =
+    Making l.sheet l.initial.book.head (written l.initial.book l.initial.table) l.book l.table l.even l.i

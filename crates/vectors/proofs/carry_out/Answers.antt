@@ -5,7 +5,8 @@ use Rattle.vectors.proofs.Output.{unread_shown, carried_shown}
 use Rattle.vectors.proofs.carry_out.Goals as goal
 
 pub returns-in-Ok : goal.returns-in-Ok
-returns-in-Ok c = carried_shown _ _ _ _ refl _ c.read_calls.ensures _ _ _ _ _ c.in-Ok.is (rw (c.requires.0, c.requires.1) at c.carry_out.ensures.carries)
+returns-in-Ok c =
+    carried_shown _ _ _ _ refl _ c.read_calls.ensures _ _ _ _ _ c.in-Ok.is (rw (c.requires.0, c.requires.1) at c.carry_out.ensures)
 
 pub returns-in-Err : goal.returns-in-Err
 returns-in-Err c = rw (c.requires.0, c.requires.1) (unread_shown _ _ _ _ refl _ c.read_calls.ensures _ c.in-Err.is)
