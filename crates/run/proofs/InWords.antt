@@ -26,8 +26,8 @@ unfolding running
 refused_run s t n e = rw e
 
 -- A head of zeros.
-abbrev pub zeros : Head
-zeros = record {
+abbrev pub zero_head : Head
+zero_head = record {
   rule = 0;
   vessels = 0;
   pieces = 0;
@@ -40,7 +40,7 @@ zeros = record {
 
 -- A run that did not begin, with this number.
 abbrev pub none_made : ℕ → List ℕ → Running
-none_made number t = record { answer = record { number = number; index = 0; even = 0; head = zeros }; table = t }
+none_made number t = record { answer = record { number = number; index = 0; even = 0; head = zero_head }; table = t }
 
 pub record Begins (s t : List ℕ) (r : Running) : Type 0 where
   pub sheet_first : (read_number s ≡ 0 → ⊥) → r ≡ none_made (read_number s) t
