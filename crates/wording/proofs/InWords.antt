@@ -86,7 +86,7 @@ module _ (h : Head) (t : List ℕ) where
   no_answers c n = refl
 
   pub refused_in_words : (c : Call) → ((call_on h t c).number ≡ 0 → ⊥)
-      → ((call_on h t c).answer ≡ no_answer) × ((call_on h t c).head ≡ h) × ((call_on h t c).table ≡ t)
+      → ((call_on h t c).answer ≡ record { whole = 0; split = 0; born = 0; fewer = 0; index = 0; weight = 0 }) × ((call_on h t c).head ≡ h) × ((call_on h t c).table ≡ t)
   refused_in_words c nz = rw (refused_on h t c _ (sym (call_number h t c)) nz) (no_answers c _, refl, refl)
 
   pub report_refused : (q : Report) (room : List ℕ) → ((call_on h t (ask q room)).number ≡ 0 → ⊥) → (call_on h t (ask q room)).room ≡ room
