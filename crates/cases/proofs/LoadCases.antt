@@ -20,14 +20,17 @@ use Rattle.cases.proofs.Cases.{Case, called, seen, pieces, answers}
 
 -- a book of three vessels under a rule: two pieces on the scale, each with a piece of another behind it
 abbrev laden : ℕ → Head
-laden rule = record { rule = rule; vessels = 3; pieces = 4; last = 5; accepted = 9; balances = 3 ∷ 5 ∷ replicate 62 0; scale = 6; rules = given_rules rule 3 }
+laden rule =
+    record { rule = rule; vessels = 3; pieces = 4; last = 5; accepted = 9; balances = 3 ∷ 5 ∷ replicate 62 0; scale = 6; rules = given_rules rule 3 }
 
 abbrev lying : List ℕ
 lying = 64 ∷ 0 ∷ 5 ∷ 2 ∷ 1 ∷ 2 ∷ 1 ∷ 5 ∷ 64 ∷ 2 ∷ 3 ∷ 4 ∷ 0 ∷ 1 ∷ 2 ∷ 3 ∷ 7 ∷ 7 ∷ []
 
 -- the table, and of the head the scale, the last minute, the count and two balances
 abbrev tipped_into_1 : ℕ → List ℕ
-tipped_into_1 rule = let o = call_on (laden rule) lying (tip (tip_of 1 9)) in o.table ++ (o.head.scale ∷ o.head.last ∷ o.head.accepted ∷ take 2 o.head.balances)
+tipped_into_1 rule =
+    let o = call_on (laden rule) lying (tip (tip_of 1 9)) in
+    o.table ++ (o.head.scale ∷ o.head.last ∷ o.head.accepted ∷ take 2 o.head.balances)
 
 abbrev behind : List ℕ
 behind = 1 ∷ 2 ∷ 1 ∷ 5 ∷ 0 ∷ 1 ∷ 2 ∷ 3 ∷ 1 ∷ 0 ∷ 5 ∷ 2 ∷ 1 ∷ 2 ∷ 3 ∷ 4 ∷ 7 ∷ 7 ∷ 0 ∷ 9 ∷ 9 ∷ 3 ∷ 11 ∷ []
@@ -41,11 +44,13 @@ abbrev reported : Report → List ℕ
 reported q = (call_on (laden 0) lying (ask q (replicate 10 7))).room
 
 abbrev vessels_only : List (List ℕ)
-vessels_only = (0 ∷ 3 ∷ 0 ∷ replicate 7 7) ∷ (0 ∷ 5 ∷ 0 ∷ replicate 7 7) ∷ (0 ∷ 3 ∷ 0 ∷ 0 ∷ 0 ∷ 5 ∷ 0 ∷ 0 ∷ 0 ∷ 7 ∷ []) ∷ []
+vessels_only =
+    (0 ∷ 3 ∷ 0 ∷ replicate 7 7) ∷ (0 ∷ 5 ∷ 0 ∷ replicate 7 7) ∷ (0 ∷ 3 ∷ 0 ∷ 0 ∷ 0 ∷ 5 ∷ 0 ∷ 0 ∷ 0 ∷ 7 ∷ []) ∷ []
 
 -- and of 64 vessels, where the scale's number would be behind the row
 abbrev all_vessels : Head
-all_vessels = record { rule = 0; vessels = 64; pieces = 1; last = 5; accepted = 1; balances = replicate 64 0; scale = 7; rules = replicate 64 0 }
+all_vessels =
+    record { rule = 0; vessels = 64; pieces = 1; last = 5; accepted = 1; balances = replicate 64 0; scale = 7; rules = replicate 64 0 }
 
 pub left_out : (map reported (Held 0 ∷ Spread 2 0 9 ∷ Whole ∷ []) ≡ vessels_only)
     × ((call_on all_vessels (64 ∷ 63 ∷ 5 ∷ 7 ∷ []) (ask (Spread 63 0 9) (replicate 65 7))).room ≡ replicate 64 0 ++ (7 ∷ []))

@@ -30,7 +30,8 @@ abbrev lots : List Call
 lots = give 1 0 9 3 4 ∷ give 2 0 9 3 7 ∷ give 1 0 10 3 2 ∷ give 2 0 10 3 4 ∷ []
 
 abbrev parts : List Call
-parts = lots ++ (give 0 1 11 2 0 ∷ set_to 0 1 ∷ give 0 1 11 2 0 ∷ set_to 0 2 ∷ give 0 1 11 2 0 ∷ set_to 0 3 ∷ give 0 1 11 2 0 ∷ [])
+parts =
+    lots ++ (give 0 1 11 2 0 ∷ set_to 0 1 ∷ give 0 1 11 2 0 ∷ set_to 0 2 ∷ give 0 1 11 2 0 ∷ set_to 0 3 ∷ give 0 1 11 2 0 ∷ [])
 
 abbrev mixture : List Call
 mixture =
@@ -52,7 +53,8 @@ weighed =
     lots ++ (set_to 0 3 ∷ lift (lift_of 0 11 4 0) ∷ set_to 0 2 ∷ set_to 1 1 ∷ set_to 3 1 ∷ tip (tip_of 1 12) ∷ give 0 1 12 2 0 ∷ give 1 2 12 3 0 ∷ [])
 
 abbrev refused : List Call
-refused = set_to 2 3 ∷ set_to 3 0 ∷ set_to 3 5 ∷ set_to 0 5 ∷ set_to 0 TOP ∷ give 1 0 5 3 0 ∷ set_to 1 2 ∷ set_to 64 0 ∷ []
+refused =
+    set_to 2 3 ∷ set_to 3 0 ∷ set_to 3 5 ∷ set_to 0 5 ∷ set_to 0 TOP ∷ give 1 0 5 3 0 ∷ set_to 1 2 ∷ set_to 64 0 ∷ []
 
 -- a look at the number of every call, the book's rule and those of four vessels, one more than it has
 abbrev told : Journal → List ℕ

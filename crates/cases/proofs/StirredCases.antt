@@ -46,7 +46,8 @@ abbrev filled : List Call
 filled = even_lots ++ (give 0 1 5 10 0 ∷ give 1 2 6 2 0 ∷ [])
 
 abbrev beyond : List Call
-beyond = even_lots ++ (give 1 2 4 1 0 ∷ give 0 1 5 10 0 ∷ lift (lift_of 0 5 10 0) ∷ give 0 1 5 3 0 ∷ give 0 1 5 20 0 ∷ [])
+beyond =
+    even_lots ++ (give 1 2 4 1 0 ∷ give 0 1 5 10 0 ∷ lift (lift_of 0 5 10 0) ∷ give 0 1 5 3 0 ∷ give 0 1 5 20 0 ∷ [])
 
 abbrev heavy : List Call
 heavy = give 1 0 1 2147483647 0 ∷ give 2 0 2 1 0 ∷ give 1 0 2 2147483647 0 ∷ set_to 0 4 ∷ give 0 1 5 4294967294 0 ∷ []

@@ -27,7 +27,8 @@ pub record Beside (b : Book) (w : WeighBook) : Type 0 where
 
 -- so that they look the same to every check
 standing : (b : Book) (w : WeighBook) → Beside b w → of_book b ≡ of_weigh w
-standing b w r = λ i. record { vessels = r.same_size i; balance = λ v. r.weights v i; last = r.same_last i; accepted = r.same_count i }
+standing b w r =
+    λ i. record { vessels = r.same_size i; balance = λ v. r.weights v i; last = r.same_last i; accepted = r.same_count i }
 
 -- where the call is accepted
 pub record Accepts (b : Book) (w : WeighBook) (c : Call) : Type 0 where
@@ -41,7 +42,8 @@ pub record Foretells (len : ℕ) (b : Book) (w : WeighBook) (c : Call) : Type 0 
 
 pub record Walks (len : ℕ) (b : Book) (w : WeighBook) (c : Call) : Type 0 where
   pub accepts : number len b c ≡ 0 → Accepts b w c
-  pub foretells : (meaning c).stirs b (number len b c) ≡ false → length b.pieces + (meaning c).counts ≤ places_in len → (1 ≤ tips_in c → 1 ≤ places_in len)
+  pub foretells : (meaning c).stirs b (number len b c) ≡ false → length b.pieces + (meaning c).counts ≤ places_in len
+      → (1 ≤ tips_in c → 1 ≤ places_in len)
       → Foretells len b w c
 
 -- A motion moves both alike.
@@ -49,14 +51,16 @@ motion_beside : (b : Book) (m : Motion) (w : WeighBook) → Beside b w → Besid
 motion_beside b m w r = record {
   same_size = r.same_size;
   weights = λ v. rw (← (r.weights v), ← (r.weights m.moves.source)) (held_after b m v);
-  births = λ o t. rw (← (r.births o t), ← (r.weights m.moves.source)) (handed_births m.moves b.pieces _ (takes_fair b m) o t);
+  births =
+      λ o t. rw (← (r.births o t), ← (r.weights m.moves.source)) (handed_births m.moves b.pieces _ (takes_fair b m) o t);
   same_last = refl;
   same_count = ap (λ (n : ℕ). n + m.counts) r.same_count;
 }
 
 -- the weigh book has the same number, and moves only where that is 0
 foretold : (len : ℕ) (b : Book) (w : WeighBook) (c : Call) → number len b c ≡ weigh_number w c → Foretells len b w c
-foretold len b w c e = record { same = λ ns. ap (λ n. listed c n ns) e; stays = λ n z. ap (λ m. if_zero m ((weighing c).next w) w) (sym e ∙ z) }
+foretold len b w c e =
+    record { same = λ ns. ap (λ n. listed c n ns) e; stays = λ n z. ap (λ m. if_zero m ((weighing c).next w) w) (sym e ∙ z) }
 
 -- What is posted, with a place free: the number is that of its own checks, if it does not pick by rule 4, and the weigh
 -- book makes the same.
@@ -65,10 +69,12 @@ module _ (p : Terms) (ok : Proper p) (len : ℕ) (b : Book) (w : WeighBook) (r :
   same_checks = ap (λ (g : Standing). first (p.checks g)) (standing b w r)
 
   posted_beside : Beside (book_after b (motion_on p b)) (weighed w (motion p (of_weigh w)))
-  posted_beside = subst (λ (g : Standing). Beside (book_after b (motion_on p b)) (weighed w (motion p g))) (standing b w r) (motion_beside b (motion_on p b) w r)
+  posted_beside =
+      subst (λ (g : Standing). Beside (book_after b (motion_on p b)) (weighed w (motion p g))) (standing b w r) (motion_beside b (motion_on p b) w r)
 
   free_number : let n = or_else (1 if eqb (places_in len) 0) (own len b (posting_meaning p)) in
-      (posting_meaning p).stirs b n ≡ false → length b.pieces + p.counts ≤ places_in len → (1 ≤ 1 - p.counts → 1 ≤ places_in len)
+      (posting_meaning p).stirs b n ≡ false → length b.pieces + p.counts ≤ places_in len
+          → (1 ≤ 1 - p.counts → 1 ≤ places_in len)
       → n ≡ of_checks p ok len b
   free_number u h k = let one = ok.once in grind (arith, nat_tests, posted_own p ok len b, posted_count p ok len b)
 
@@ -85,7 +91,8 @@ walks len b w (enter p) r =
       foretells = λ u h k. foretold len b w (enter p) (free_number (terms p) ok len b w r u h k ∙ s);
     }
 walks len b w (set_rule s) r = record {
-  accepts = λ e. record { weighs = refl; beside = record { same_size = r.same_size; weights = r.weights; births = r.births; same_last = r.same_last; same_count = r.same_count } };
+  accepts =
+      λ e. record { weighs = refl; beside = record { same_size = r.same_size; weights = r.weights; births = r.births; same_last = r.same_last; same_count = r.same_count } };
   foretells = λ u h k. record { same = λ ns. refl; stays = λ n e. refl };
 }
 walks len b w (ask q room) r = record {

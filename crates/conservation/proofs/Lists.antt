@@ -20,9 +20,11 @@ record Follows (len : ℕ) (b : Book) (w : WeighBook) (es : List Entry) (final :
   beside : Beside final (feed w (answered es))
   tally : final.accepted ≡ transfers (answered es) + b.accepted
   count : stirs es ≡ false → length final.pieces + evens es + b.accepted ≡ length b.pieces + final.accepted
-  forecasts : stirs es ≡ false → length b.pieces + transfers (all_asked es) ≤ places_in len → (1 ≤ tips (all_asked es) → 1 ≤ places_in len) → numbers es ≡ forecast w (all_asked es)
+  forecasts : stirs es ≡ false → length b.pieces + transfers (all_asked es) ≤ places_in len
+      → (1 ≤ tips (all_asked es) → 1 ≤ places_in len) → numbers es ≡ forecast w (all_asked es)
   -- and so what is refused does not move the weigh book either
-  fed : stirs es ≡ false → length b.pieces + transfers (all_asked es) ≤ places_in len → (1 ≤ tips (all_asked es) → 1 ≤ places_in len) → feed w (answered es) ≡ feed w (all_asked es)
+  fed : stirs es ≡ false → length b.pieces + transfers (all_asked es) ≤ places_in len
+      → (1 ≤ tips (all_asked es) → 1 ≤ places_in len) → feed w (answered es) ≡ feed w (all_asked es)
 
 module _ (len : ℕ) where
   abbrev Followed : Book → List Entry → Book → Type 0
@@ -30,9 +32,11 @@ module _ (len : ℕ) where
 
   none : (b : Book) → Followed b [] b
   unfolding follow feed forecast
-  none b w r = record { in_turn = refl; beside = r; tally = omega arith; count = λ u. omega arith; forecasts = λ u h k. refl; fed = λ u h k. refl }
+  none b w r =
+      record { in_turn = refl; beside = r; tally = omega arith; count = λ u. omega arith; forecasts = λ u h k. refl; fed = λ u h k. refl }
 
-  more : (b : Book) (c : Call) (es : List Entry) (z : Book) → SoundBook len b → Followed (step len b c) es z → Followed b (entry len b c ∷ es) z
+  more : (b : Book) (c : Call) (es : List Entry) (z : Book) → SoundBook len b → Followed (step len b c) es z
+      → Followed b (entry len b c ∷ es) z
   unfolding follow feed forecast
   more b c es z o rest w r = go (number len b c) refl
     where
@@ -45,15 +49,18 @@ module _ (len : ℕ) where
           let a = s.accepts e in
           let next : Followed ((meaning c).next b) es z = rw e at rest in
           let i = next ((weighing c).next w) a.beside in
-          let count : stirs (entry len b c ∷ es) ≡ false → length ((meaning c).next b).pieces + (meaning c).even b ≡ length b.pieces + (meaning c).counts =
+          let count : stirs (entry len b c ∷ es) ≡ false
+              → length ((meaning c).next b).pieces + (meaning c).even b ≡ length b.pieces + (meaning c).counts =
           λ q. count_kept len b c (grind (arith, e)) in
           record {
             in_turn = rw e i.in_turn;
             beside = rw (e, feed, a.weighs, feed) i.beside;
             tally = rw e (omega (arith, i.tally, k.tally));
             count = λ q. rw e (let u = i.count (grind arith) in let v = count q in omega (arith, u, v, k.tally));
-            forecasts = λ q h f. rw (e, a.weighs, i.forecasts (grind arith) (let v = count q in omega arith) (λ u. f (omega arith)));
-            fed = λ q h f. rw (e, feed, a.weighs) (i.fed (grind arith) (let v = count q in omega arith) (λ u. f (omega arith)));
+            forecasts =
+                λ q h f. rw (e, a.weighs, i.forecasts (grind arith) (let v = count q in omega arith) (λ u. f (omega arith)));
+            fed =
+                λ q h f. rw (e, feed, a.weighs) (i.fed (grind arith) (let v = count q in omega arith) (λ u. f (omega arith)));
           }
       go (suc n) e =
           let next : Followed b es z = rw e at rest in
@@ -80,7 +87,8 @@ module _ (rule size : ℕ) (e : (opening rule size).number ≡ 0) (t : List ℕ)
   ended = from_opening (length t) (Followed (length t)) (none (length t)) (more (length t)) rule size e t refl cs
 
   followed : Follows (length t) (opened rule size) (blank size) journal.log ended.final
-  followed = ended.related (blank size) (record { same_size = refl; weights = λ v. refl; births = λ o t. refl; same_last = refl; same_count = refl })
+  followed =
+      ended.related (blank size) (record { same_size = refl; weights = λ v. refl; births = λ o t. refl; same_last = refl; same_count = refl })
 
   -- DEMAND 3: for every opening that is accepted, every table and every list of calls.
   pub demand_3 : Demand3 rule size t cs (calls_on (opening rule size).head t cs)
@@ -102,7 +110,8 @@ module _ (rule size : ℕ) (e : (opening rule size).number ≡ 0) (t : List ℕ)
 
   -- Where rule 4 is never used and there are places enough, the weigh book fed every call, the refused ones too, is
   -- what it is fed the accepted ones.
-  pub fed_all : stirs journal.log ≡ false → transfers cs ≤ places_of t → (1 ≤ tips cs → 4 ≤ length t) → feed (blank size) (answered journal.log) ≡ feed (blank size) cs
+  pub fed_all : stirs journal.log ≡ false → transfers cs ≤ places_of t → (1 ≤ tips cs → 4 ≤ length t)
+      → feed (blank size) (answered journal.log) ≡ feed (blank size) cs
   unfolding places_in
   fed_all s h q =
       let n = ended in

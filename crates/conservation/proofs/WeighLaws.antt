@@ -17,5 +17,6 @@ pub record TipWeighed (w : WeighBook) (y : Tip) (w' : WeighBook) : Type 0 where
   pub last : w'.last ≡ y.minute
   pub accepted : w'.accepted ≡ w.accepted
 
-pub tip_weighed : (w : WeighBook) (y : Tip) → y.destination ≢ the_scale → TipWeighed w y (weighed w (tip_motion the_scale (w.weight the_scale) y))
+pub tip_weighed : (w : WeighBook) (y : Tip) → y.destination ≢ the_scale
+    → TipWeighed w y (weighed w (tip_motion the_scale (w.weight the_scale) y))
 tip_weighed w y ne = grind (arith, nat_tests)

@@ -39,7 +39,8 @@ pub record Demand3 (rule size : ℕ) (t : List ℕ) (cs : List Call) (r : Journa
   -- tips
   pub vessel_sums : (v : ℕ) → held v (book_of r.head r.table).pieces ≡ (feed (blank size) (answered r.log)).weight v
   -- for each origin and birth minute they sum to what the weigh book saw born
-  pub birth_sums : (o m : ℕ) → sum (born_at o m) (book_of r.head r.table).pieces ≡ (feed (blank size) (answered r.log)).births o m
+  pub birth_sums : (o m : ℕ)
+      → sum (born_at o m) (book_of r.head r.table).pieces ≡ (feed (blank size) (answered r.log)).births o m
   -- where rule 4 is never used, pieces + even transfers = accepted transfers, with lifts as transfers and no tip
   -- counted
   pub even_count : stirs r.log ≡ false → r.head.pieces + evens r.log ≡ r.head.accepted
@@ -48,6 +49,7 @@ pub record Demand3 (rule size : ℕ) (t : List ℕ) (cs : List Call) (r : Journa
   -- where rule 4 is never used, and no more transfers are listed, lifts and refused ones counted, than there are
   -- places, the weigh book alone gives the number of every transfer and lift; and of every tip, if the table has at
   -- least 4 numbers
-  pub forecasts : stirs r.log ≡ false → transfers cs ≤ places_of t → (1 ≤ tips cs → 4 ≤ length t) → numbers r.log ≡ forecast (blank size) cs
+  pub forecasts : stirs r.log ≡ false → transfers cs ≤ places_of t → (1 ≤ tips cs → 4 ≤ length t)
+      → numbers r.log ≡ forecast (blank size) cs
   -- the book adds up, so that number 4 never comes
   pub book_adds_up : adds_up r.head r.table ≡ true

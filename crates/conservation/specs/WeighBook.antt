@@ -47,7 +47,8 @@ pub record Weighing : Type 0 where
 -- What is posted it checks and weighs as a book does, "with W as balance": "a lift is to it a transfer onto the scale,
 -- a tip moves all its weight there to d, sets last and leaves accepted"
 abbrev pub terms_weighing : Terms → Weighing
-terms_weighing p = record { checks = λ w. p.checks (of_weigh w); next = λ w. weighed w (motion p (of_weigh w)); forecasts = true }
+terms_weighing p =
+    record { checks = λ w. p.checks (of_weigh w); next = λ w. weighed w (motion p (of_weigh w)); forecasts = true }
 
 -- what it is not fed
 abbrev pub no_weighing : Weighing

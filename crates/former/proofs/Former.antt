@@ -15,18 +15,21 @@ use Rattle.book.proofs.HeadLaws.{all_sound, in_vessels}
 
 module _ (size last : ℕ) where
   -- pieces that fit, and none of them on the scale
-  bare_former : {ps : List Piece} → All (λ p. p.holder < size) ps → every (fits size last) ps ≡ true → every (former_fits size last) ps ≡ true
+  bare_former : {ps : List Piece} → All (λ p. p.holder < size) ps → every (fits size last) ps ≡ true
+      → every (former_fits size last) ps ≡ true
   unfolding every
   bare_former done e = refl
   bare_former (also {p = p} {ps = ps} h x) e = grind (arith, nat_tests, bare_former x)
 
   -- pieces that all lie in vessels
-  former_bare : size ≤ most_vessels → (ps : List Piece) → every (former_fits size last) ps ≡ true → (every (fits size last) ps ≡ true) × (held the_scale ps ≡ 0)
+  former_bare : size ≤ most_vessels → (ps : List Piece) → every (former_fits size last) ps ≡ true
+      → (every (fits size last) ps ≡ true) × (held the_scale ps ≡ 0)
   unfolding every
   former_bare small [] e = (refl, refl)
   former_bare small (p ∷ ps) e = grind (arith, nat_tests, former_bare small ps)
 
-pub bare_book : (h : Head) (t : List ℕ) → h.scale ≡ 0 → h.rules ≡ given_rules h.rule h.vessels → all_of (former_tests h t) ≡ (adds_up h t && leb h.pieces h.accepted)
+pub bare_book : (h : Head) (t : List ℕ) → h.scale ≡ 0 → h.rules ≡ given_rules h.rule h.vessels
+    → all_of (former_tests h t) ≡ (adds_up h t && leb h.pieces h.accepted)
 unfolding adds_up
 bare_book h t z unset = grind (arith, nat_tests, alike, given_fit h.rule h.vessels)
   where
@@ -42,10 +45,12 @@ bare_book h t z unset = grind (arith, nat_tests, alike, given_fit h.rule h.vesse
     level : Bool
     level = same h.balances (balances_of h.vessels ps)
 
-    alike : h.vessels ≤ most_vessels → (one && (level && (eqb h.scale (held the_scale ps) && true))) ≡ (other && (level && true))
+    alike : h.vessels ≤ most_vessels
+        → (one && (level && (eqb h.scale (held the_scale ps) && true))) ≡ (other && (level && true))
     alike small =
         let lie = in_vessels h.vessels h.last ps in
         let fit = all_sound h.vessels h.last ps in
-        let there : held the_scale ps ≡ 0 → one ≡ true → other ≡ true = λ w u. bare_former h.vessels h.last (lie (fit u) w) u in
+        let there : held the_scale ps ≡ 0 → one ≡ true → other ≡ true =
+            λ w u. bare_former h.vessels h.last (lie (fit u) w) u in
         let back = former_bare h.vessels h.last small ps in
         grind (arith, nat_tests, there, back)

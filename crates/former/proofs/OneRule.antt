@@ -39,7 +39,8 @@ module _ (h : Head) (t : List ℕ) (unset : h.rules ≡ given_rules h.rule h.ves
   same_taken m a inside =
       rw (unset, given_at h.rule h.vessels m.moves.source a.vessels_fit inside) (taken_singly h.rule m.moves b.pieces (λ e. omega (arith, a.rule_known)))
 
-  pub former_split : (c : Call) → one_rule_number h t c ≡ if_zero (first (one_rule_checks h t)) (first ((one_rule c).checks (length t) b)) (first (one_rule_checks h t))
+  pub former_split : (c : Call)
+      → one_rule_number h t c ≡ if_zero (first (one_rule_checks h t)) (first ((one_rule c).checks (length t) b)) (first (one_rule_checks h t))
   unfolding one_rule_number one_rule_checks
   former_split c = first_append (one_rule_checks h t) ((one_rule c).checks (length t) b) tt
 
@@ -96,13 +97,16 @@ module _ (h : Head) (t : List ℕ) (unset : h.rules ≡ given_rules h.rule h.ves
   as_before (enter v) u = go (terms v).counts refl
     where
       go : (n : ℕ) → (terms v).counts ≡ n → call_on h t (enter v) ≡ one_rule_on h t (enter v)
-      go zero z = let same : one_rule (enter v) ≡ meaning (enter v) = rw z refl in as_ever (enter v) (λ a. ap (λ (x : Meaning). first (x.checks (length t) b)) (sym same)) (ap (λ (x : Meaning). x.refused) (sym same)) (ap (λ (x : Meaning). x.stirs) (sym same)) (λ a e. ap (λ (x : Meaning). outcome h t x 0) (sym same))
+      go zero z =
+          let same : one_rule (enter v) ≡ meaning (enter v) =
+              rw z refl in as_ever (enter v) (λ a. ap (λ (x : Meaning). first (x.checks (length t) b)) (sym same)) (ap (λ (x : Meaning). x.refused) (sym same)) (ap (λ (x : Meaning). x.stirs) (sym same)) (λ a e. ap (λ (x : Meaning). outcome h t x 0) (sym same))
       go (suc n) z = posted_as_before v (omega arith)
   as_before (set_rule s) u = cc
   as_before c u = as_ever c (λ a. refl) refl refl (λ a e. refl)
 
   -- and it leaves the rules as they were given
-  pub still_unset : (c : Call) → sets_rule c ≡ false → let z = (call_on h t c).head in z.rules ≡ given_rules z.rule z.vessels
+  pub still_unset : (c : Call) → sets_rule c ≡ false → let z =
+      (call_on h t c).head in z.rules ≡ given_rules z.rule z.vessels
   still_unset c u = rw (rules_kept h t c u, (rule_kept h t c).0, (rule_kept h t c).1) unset
 
   -- and no more pieces than accepted transfers
@@ -120,7 +124,9 @@ module _ (h : Head) (t : List ℕ) (unset : h.rules ≡ given_rules h.rule h.ves
           omega (arith, counted, length_pieces h.pieces t, count_kept (length t) b c none, (keeps (length t) b c (adds_sound h t a) z).tally)
 
 abbrev AsBefore : List Call → Type 0
-AsBefore cs = (h : Head) (t : List ℕ) → h.rules ≡ given_rules h.rule h.vessels → h.pieces ≤ h.accepted → calls_on h t cs ≡ one_rule_calls h t cs
+AsBefore cs =
+    (h : Head) (t : List ℕ) → h.rules ≡ given_rules h.rule h.vessels → h.pieces ≤ h.accepted
+        → calls_on h t cs ≡ one_rule_calls h t cs
 
 -- THE THEOREM: for every list of calls, any settings left out.
 pub never_set : (cs : List Call) → AsBefore (without_settings cs)
@@ -136,10 +142,12 @@ never_set (c ∷ cs) h t unset counted = go (sets_rule c) refl (never_set cs)
         rw (← (as_before h t unset counted c e)) (ap (noted c o) (rest o.head o.table (still_unset h t unset counted c e) (still_counted h t unset counted c)))
 
 -- so from any opening on
-pub opened_unset : (rule size : ℕ) → let h = (opening rule size).head in (h.rules ≡ given_rules h.rule h.vessels) × (h.pieces ≤ h.accepted)
+pub opened_unset : (rule size : ℕ) → let h =
+    (opening rule size).head in (h.rules ≡ given_rules h.rule h.vessels) × (h.pieces ≤ h.accepted)
 unfolding opening
 opened_unset rule size = go (first (open_checks rule size))
   where
-    go : (n : ℕ) → let h = (opens rule size n).head in (h.rules ≡ given_rules h.rule h.vessels) × (h.pieces ≤ h.accepted)
+    go : (n : ℕ) → let h =
+        (opens rule size n).head in (h.rules ≡ given_rules h.rule h.vessels) × (h.pieces ≤ h.accepted)
     go zero = (refl, omega arith)
     go (suc n) = (refl, omega arith)

@@ -30,7 +30,8 @@ former_checks g s d t q =
     ∷ []
 
 abbrev pub former_meaning : ℕ → ℕ → ℕ → ℕ → Meaning
-former_meaning s d t q = former_posting (record (transfer_terms (unaged s d t q)) { checks = λ g. former_checks g s d t q; birth = t })
+former_meaning s d t q =
+    former_posting (record (transfer_terms (unaged s d t q)) { checks = λ g. former_checks g s d t q; birth = t })
 
 -- a book that adds up, where every piece lies in a vessel, and the head has no scale and no rules of vessels
 abbrev pub former_fits : ℕ → ℕ → Piece → Bool

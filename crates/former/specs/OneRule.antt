@@ -26,9 +26,11 @@ former_pieces b x = handed x (former_takes b x)
 abbrev pub former_posting : Terms → Meaning
 former_posting p =
     record (posting_meaning p) {
-      checks = λ len b. p.checks (of_book b) ++ place_checks p.counts (places_in len) (former_pieces b (motion_on p b).moves);
+      checks =
+          λ len b. p.checks (of_book b) ++ place_checks p.counts (places_in len) (former_pieces b (motion_on p b).moves);
       told = λ b. record { answer = answer_of (former_takes b (motion_on p b).moves); room = [] };
-      next = λ b. record b { last = p.minute; accepted = b.accepted + p.counts; pieces = former_pieces b (motion_on p b).moves };
+      next =
+          λ b. record b { last = p.minute; accepted = b.accepted + p.counts; pieces = former_pieces b (motion_on p b).moves };
       table = λ b. lay (former_pieces b (motion_on p b).moves);
       even = λ b. if_zero p.counts 0 (even_of (answer_of (former_takes b (motion_on p b).moves)));
     }
@@ -43,7 +45,8 @@ abbrev pub former_count_tests : Head → List ℕ → List Bool
 former_count_tests h t = count_tests h t ++ (leb h.pieces h.accepted ∷ [])
 
 unfoldable pub one_rule_checks : Head → List ℕ → List Check
-one_rule_checks h t = 1 if ltb (length t) 4 ∷ 4 if not (all_of (former_count_tests h t ++ balanced h (pieces_of h.pieces t))) ∷ []
+one_rule_checks h t =
+    1 if ltb (length t) 4 ∷ 4 if not (all_of (former_count_tests h t ++ balanced h (pieces_of h.pieces t))) ∷ []
 
 unfoldable pub one_rule_number : Head → List ℕ → Call → ℕ
 one_rule_number h t c = first (one_rule_checks h t ++ (one_rule c).checks (length t) (book_of h t))

@@ -24,26 +24,31 @@ pub appends_none : (old : Option (List ℕ)) → Appends old old []
 appends_none None = tt
 appends_none (Some xs) = sym (append-nil xs)
 
-pub appends_both : (old between new : Option (List ℕ)) (xs ys : List ℕ) → Appends old between xs → Appends between new ys → Appends old new (xs ++ ys)
+pub appends_both : (old between new : Option (List ℕ)) (xs ys : List ℕ) → Appends old between xs
+    → Appends between new ys → Appends old new (xs ++ ys)
 appends_both None between new xs ys a b = tt
 appends_both (Some os) (Some bs) (Some ns) xs ys a b = b ∙ rw a (append_assoc os xs ys)
 appends_both (Some os) None new xs ys a b = absurd a
 appends_both (Some os) (Some bs) None xs ys a b = absurd b
 
 -- bytes that were written, and then those of a call that may fail, are what is shown
-pub appends_then : {A E : Type 0} (r : Result A E) (old between new : Option (List ℕ)) (xs ys zs : List ℕ) → xs ++ ys ≡ zs → Appends old between xs → OnOk r (Appends between new ys)
+pub appends_then : {A E : Type 0} (r : Result A E) (old between new : Option (List ℕ)) (xs ys zs : List ℕ)
+    → xs ++ ys ≡ zs → Appends old between xs → OnOk r (Appends between new ys)
     → OnOk r (Appends old new zs)
 appends_then (Ok x) old between new xs ys zs e a b = rw (← e) (appends_both old between new xs ys a b)
 appends_then (Err x) old between new xs ys zs e a b = tt
 
 -- a line of numbers, one number more
-more : (ns : List ℕ) (i : ℕ) → i < length ns → numbers_text (take (suc i) ns) ≡ numbers_text (take i ns) ++ (decimal (get_or ns i 0) ++ (space ∷ []))
+more : (ns : List ℕ) (i : ℕ) → i < length ns
+    → numbers_text (take (suc i) ns) ≡ numbers_text (take i ns) ++ (decimal (get_or ns i 0) ++ (space ∷ []))
 unfolding numbers_text
 more [] i h = absurd (omega arith)
 more (n ∷ ns) zero h = append-nil (decimal n ++ (space ∷ []))
-more (n ∷ ns) (suc i) h = ap (λ (k : List ℕ). (decimal n ++ (space ∷ [])) ++ k) (more ns i (omega arith)) ∙ sym (append_assoc (decimal n ++ (space ∷ [])) _ _)
+more (n ∷ ns) (suc i) h =
+    ap (λ (k : List ℕ). (decimal n ++ (space ∷ [])) ++ k) (more ns i (omega arith)) ∙ sym (append_assoc (decimal n ++ (space ∷ [])) _ _)
 
-pub number_more : (ns : List ℕ) (i : ℕ) (old between new : Option (List ℕ)) → i < length ns → Appends old between (numbers_text (take i ns))
+pub number_more : (ns : List ℕ) (i : ℕ) (old between new : Option (List ℕ)) → i < length ns
+    → Appends old between (numbers_text (take i ns))
     → Appends between new (decimal (get_or ns i 0) ++ (space ∷ [])) → Appends old new (numbers_text (take (i + 1) ns))
 number_more ns i old between new h a b = rw (add-one, more ns i h) (appends_both old between new _ _ a b)
 
@@ -82,9 +87,11 @@ module _ (rule : ℕ) (numbers : List ℕ) (cs cs' : List Call) (room_is : lengt
 
   module _ (r : Reply) (t answers room : List ℕ) where
     abbrev Carries : List Call → Type 0
-    Carries l = CarriesOut rule vessels l (replicate table_room 0) (replicate answers_room unwritten) (replicate report_room unwritten) r t answers room
+    Carries l =
+        CarriesOut rule vessels l (replicate table_room 0) (replicate answers_room unwritten) (replicate report_room unwritten) r t answers room
 
-    by_opening : ages_off n numbers ≡ false → Carries asked → (k : ℕ) → first (open_checks rule vessels) ≡ k → numbers_line answers ++ numbers_line room ≡ carried_listing rule numbers
+    by_opening : ages_off n numbers ≡ false → Carries asked → (k : ℕ) → first (open_checks rule vessels) ≡ k
+        → numbers_line answers ++ numbers_line room ≡ carried_listing rule numbers
     unfolding carried_listing
     by_opening u w zero ek =
         let d = w.done ek in
@@ -94,16 +101,19 @@ module _ (rule : ℕ) (numbers : List ℕ) (cs cs' : List Call) (room_is : lengt
         rw (u, ek, numbered, written) refl
     by_opening u w (suc k) ek = let d = w.refused (λ x. omega (arith, ek, x)) in rw (u, ek, d.2, d.3) refl
 
-    pub carried_shown : (m : ℕ) → z ≡ Ok m → Carries (take m cs') → numbers_line answers ++ numbers_line room ≡ carried_listing rule numbers
+    pub carried_shown : (m : ℕ) → z ≡ Ok m → Carries (take m cs')
+        → numbers_line answers ++ numbers_line room ≡ carried_listing rule numbers
     carried_shown m e w = go (ages_off n numbers) refl
       where
-        go : (b : Bool) → ages_off n numbers ≡ b → numbers_line answers ++ numbers_line room ≡ carried_listing rule numbers
+        go : (b : Bool) → ages_off n numbers ≡ b
+            → numbers_line answers ++ numbers_line room ≡ carried_listing rule numbers
         go true u = absurd (grind (arith, e, read_off u))
         go false u =
             let d = read_on u in
             let em : m ≡ n = grind (arith, e, d.0) in
             let long : n ≤ length asked = omega (arith, count_in n numbers) in
-            let front : take m cs' ≡ asked = rw (em, d.1) (take-append-le n asked (drop n cs) long ∙ all_of n asked (count_in n numbers)) in
+            let front : take m cs' ≡ asked =
+                rw (em, d.1) (take-append-le n asked (drop n cs) long ∙ all_of n asked (count_in n numbers)) in
             by_opening u (rw front at w) (first (open_checks rule vessels)) refl
 
 pub calls_shown : (text numbers : List ℕ) (count : ℕ) → count ≡ min (length (numbers_in text)) (1 + calls_room)

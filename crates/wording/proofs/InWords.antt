@@ -51,14 +51,16 @@ module _ (h : Head) (t : List ℕ) where
   abbrev InWords : Call → Motion → Type 0
   InWords c m = ((call_on h t c).table ≡ lay (moved m).pieces t) × ((call_on h t c).answer ≡ moved_answer (moved m))
 
-  pub in_words : (x : Transfer) → (call_on h t (post x)).number ≡ 0 → rule_at h.rules x.source ≢ stirred_rule → InWords (post x) (motion_of x)
+  pub in_words : (x : Transfer) → (call_on h t (post x)).number ≡ 0 → rule_at h.rules x.source ≢ stirred_rule
+      → InWords (post x) (motion_of x)
   unfolding call_on takes
   in_words x z first =
       let e = sym (call_number h t (post x)) ∙ z in
       let apart = (post_fit h t x e).apart in
       rw (e, taken_in_table _ (motion_of x).moves ps first (λ q. apart (sym q))) (refl, refl)
 
-  pub lift_in_words : (x : Lift) → (call_on h t (lift x)).number ≡ 0 → rule_at h.rules x.source ≢ stirred_rule → InWords (lift x) (lift_motion the_scale x)
+  pub lift_in_words : (x : Lift) → (call_on h t (lift x)).number ≡ 0 → rule_at h.rules x.source ≢ stirred_rule
+      → InWords (lift x) (lift_motion the_scale x)
   unfolding call_on takes
   lift_in_words x z first =
       let e = sym (call_number h t (lift x)) ∙ z in
@@ -77,7 +79,9 @@ module _ (h : Head) (t : List ℕ) where
   pub report_in_words : (q : Report) (room : List ℕ) → (call_on h t (ask q room)).number ≡ 0
       → let w = report_row h.vessels ps q in (take (length w) (call_on h t (ask q room)).room ≡ w) × (drop (length w) (call_on h t (ask q room)).room ≡ drop (length w) room)
   unfolding call_on
-  report_in_words q room z = let e = sym (call_number h t (ask q room)) ∙ z in rw (e, all_pass ps) (take_at (report_row h.vessels ps q) _ _ refl, drop_at (report_row h.vessels ps q) _ _ refl)
+  report_in_words q room z =
+      let e =
+          sym (call_number h t (ask q room)) ∙ z in rw (e, all_pass ps) (take_at (report_row h.vessels ps q) _ _ refl, drop_at (report_row h.vessels ps q) _ _ refl)
 
   -- A refusal returns its number with all other answer numbers 0 and the head as given; no lent memory changes, the
   -- room of a report neither.
@@ -89,7 +93,8 @@ module _ (h : Head) (t : List ℕ) where
       → ((call_on h t c).answer ≡ record { whole = 0; split = 0; born = 0; fewer = 0; index = 0; weight = 0 }) × ((call_on h t c).head ≡ h) × ((call_on h t c).table ≡ t)
   refused_in_words c nz = rw (refused_on h t c _ (sym (call_number h t c)) nz) (no_answers c _, refl, refl)
 
-  pub report_refused : (q : Report) (room : List ℕ) → ((call_on h t (ask q room)).number ≡ 0 → ⊥) → (call_on h t (ask q room)).room ≡ room
+  pub report_refused : (q : Report) (room : List ℕ) → ((call_on h t (ask q room)).number ≡ 0 → ⊥)
+      → (call_on h t (ask q room)).room ≡ room
   report_refused q room nz = rw (refused_on h t (ask q room) _ (sym (call_number h t (ask q room))) nz)
 
   -- "The call checks 1, 4, 5, 2", where "2 now means above 4", and nothing else refuses it.

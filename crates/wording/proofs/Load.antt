@@ -44,7 +44,8 @@ load h t = held_by the_scale (book_of h t).pieces
 
 module _ (h : Head) (t : List ℕ) where
   -- an accepted call leaves the book that it means
-  left_book : (c : Call) → number_of h t c ≡ 0 → book_of (call_on h t c).head (call_on h t c).table ≡ (meaning c).next (book_of h t)
+  left_book : (c : Call) → number_of h t c ≡ 0
+      → book_of (call_on h t c).head (call_on h t c).table ≡ (meaning c).next (book_of h t)
   left_book c e =
       let a = accepted_book h t c e in
       let s = in_step (length t) h t (book_of h t) (adds_on h t a) (adds_sound h t a) c in
@@ -54,21 +55,26 @@ module _ (h : Head) (t : List ℕ) where
   -- "22 is left for lift alone"
   pub loaded_refuses : 0 < h.scale → first (book_checks h t) ≡ 0 → (x : Lift) → number_of h t (lift x) ≡ 22
   unfolding lift_checks
-  loaded_refuses u e x = let a = adds_up_told h t (book_passed h t e).1 in grind (arith, nat_tests, a.scale_is, on_number h t (lift x) 0 (sym e) refl)
+  loaded_refuses u e x =
+      let a =
+          adds_up_told h t (book_passed h t e).1 in grind (arith, nat_tests, a.scale_is, on_number h t (lift x) 0 (sym e) refl)
 
   pub lift_alone : (x : Transfer) (y : Tip) (s : Setting) (q : Report) (room : List ℕ)
       → (number_of h t (post x) ≢ 22) × (number_of h t (tip y) ≢ 22) × (number_of h t (set_rule s) ≢ 22) × (number_of h t (ask q room) ≢ 22)
   unfolding book_checks transfer_checks tip_checks setting_checks asked_checks
-  lift_alone x y s q room = grind (arith, number_split h t (post x), number_split h t (tip y), number_split h t (set_rule s), number_split h t (ask q room))
+  lift_alone x y s q room =
+      grind (arith, number_split h t (post x), number_split h t (tip y), number_split h t (set_rule s), number_split h t (ask q room))
 
   -- What is on the scale stays there, whatever is called but a tip.
   module _ (loaded : h.scale ≢ 0) where
     -- what counts is not from the scale, and not onto it
-    outside : (v : Posting) → tips_in (enter v) ≡ 0 → number_of h t (enter v) ≡ 0 → ((terms v).source ≢ the_scale) × ((terms v).destination ≢ the_scale)
+    outside : (v : Posting) → tips_in (enter v) ≡ 0 → number_of h t (enter v) ≡ 0
+        → ((terms v).source ≢ the_scale) × ((terms v).destination ≢ the_scale)
     outside v u e =
         let p = terms v in
         let a = accepted_book h t (enter v) e in
-        let own = first_zero _ _ (sym (posted_own p (proper v) (length t) (book_of h t)) ∙ checks_passed h t (enter v) e) in
+        let own =
+            first_zero _ _ (sym (posted_own p (proper v) (length t) (book_of h t)) ∙ checks_passed h t (enter v) e) in
         let f = (proper v).fits (of_book (book_of h t)) own in
         let i : p.source < h.vessels = f.from_vessel (omega arith) in
         let few = a.vessels_fit in
@@ -78,7 +84,8 @@ module _ (h : Head) (t : List ℕ) where
     pub load_stays : (c : Call) → tips_in c ≡ 0 → load (call_on h t c).head (call_on h t c).table ≡ load h t
     load_stays c untipped = go (number_of h t c) refl
       where
-        accepted : (c : Call) → tips_in c ≡ 0 → number_of h t c ≡ 0 → held_by the_scale ((meaning c).next (book_of h t)).pieces ≡ load h t
+        accepted : (c : Call) → tips_in c ≡ 0 → number_of h t c ≡ 0
+            → held_by the_scale ((meaning c).next (book_of h t)).pieces ≡ load h t
         accepted (enter v) u e =
             let m = motion_on (terms v) (book_of h t) in
             let o = outside v u e in
@@ -99,7 +106,8 @@ module _ (h : Head) (t : List ℕ) where
     scale_stays c u = grind (arith, accepted_book h t c)
 
 -- WAITING: while no tip is made, what is on the scale stays as it is, in its order.
-pub load_waits : (cs : List Call) (h : Head) (t : List ℕ) → h.scale ≢ 0 → tips cs ≡ 0 → load (calls_on h t cs).head (calls_on h t cs).table ≡ load h t
+pub load_waits : (cs : List Call) (h : Head) (t : List ℕ) → h.scale ≢ 0 → tips cs ≡ 0
+    → load (calls_on h t cs).head (calls_on h t cs).table ≡ load h t
 unfolding calls_on
 load_waits [] h t loaded u = refl
 load_waits (c ∷ cs) h t loaded u =
@@ -112,7 +120,8 @@ load_waits (c ∷ cs) h t loaded u =
 pub tip_comes_last : (cs : List Call) (h : Head) (t : List ℕ) (y : Tip) → h.scale ≢ 0 → tips cs ≡ 0
     → let r = calls_on h t cs in
     let o = call_on r.head r.table (tip y) in
-    o.number ≡ 0 → o.table ≡ lay (elsewhere the_scale (pieces_of r.head.pieces r.table) ++ map (hand_to y.destination) (load h t)) r.table
+    o.number ≡ 0
+        → o.table ≡ lay (elsewhere the_scale (pieces_of r.head.pieces r.table) ++ map (hand_to y.destination) (load h t)) r.table
 tip_comes_last cs h t y loaded u e =
     let r = calls_on h t cs in
     rw (← (load_waits cs h t loaded u)) (tip_in_words r.head r.table y e)
@@ -124,7 +133,8 @@ unloaded b = record b { pieces = elsewhere the_scale b.pieces }
 module _ (b : Book) (x : Transfer) (source : the_scale ≢ x.source) (destination : the_scale ≢ x.destination) where
   apart_next : (meaning (post x)).next (unloaded b) ≡ unloaded ((meaning (post x)).next b)
   unfolding takes
-  apart_next = λ i. record { rule = b.rule; vessels = b.vessels; last = x.minute; accepted = b.accepted + 1; rules = b.rules; pieces = apart_handed the_scale (rule_at b.rules x.source) (motion_of x).moves b.pieces source destination i }
+  apart_next =
+      λ i. record { rule = b.rule; vessels = b.vessels; last = x.minute; accepted = b.accepted + 1; rules = b.rules; pieces = apart_handed the_scale (rule_at b.rules x.source) (motion_of x).moves b.pieces source destination i }
 
   apart_answer : ((meaning (post x)).told b).answer ≡ ((meaning (post x)).told (unloaded b)).answer
   unfolding takes
@@ -132,7 +142,8 @@ module _ (b : Book) (x : Transfer) (source : the_scale ≢ x.source) (destinatio
 
   apart_checks : transfer_checks (of_book (unloaded b)) x ≡ transfer_checks (of_book b) x
   unfolding transfer_checks
-  apart_checks = rw (sum_elsewhere the_scale (in_vessel x.destination) (λ o m. ne_eqb the_scale x.destination destination) b.pieces) refl
+  apart_checks =
+      rw (sum_elsewhere the_scale (in_vessel x.destination) (λ o m. ne_eqb the_scale x.destination destination) b.pieces) refl
 
 -- THE LOAD PLAYS NO PART in a transfer: what it leaves in the vessels is what it leaves on the book without the load,
 -- it says the same, and its checks are the same. (But 11: the pieces on the scale take places.)

@@ -18,7 +18,8 @@ use Rattle.book.proofs.Sound.{held_after}
 use Rattle.book.proofs.Accepted.{post_fit, accepted_book}
 
 -- on a head and a table that checks 1 and 4 let pass
-pub bare_refuses : (h : Head) (t : List ℕ) → first (book_checks h t) ≡ 0 → h.scale ≡ 0 → (y : Tip) → number_of h t (tip y) ≡ 23
+pub bare_refuses : (h : Head) (t : List ℕ) → first (book_checks h t) ≡ 0 → h.scale ≡ 0 → (y : Tip)
+    → number_of h t (tip y) ≡ 23
 unfolding tip_checks
 bare_refuses h t e u y =
     let a = adds_up_told h t (book_passed h t e).1 in
@@ -27,4 +28,5 @@ bare_refuses h t e u y =
 -- a transfer leaves the scale as it was
 pub post_scale : (h : Head) (t : List ℕ) (x : Transfer) → (call_on h t (post x)).head.scale ≡ h.scale
 unfolding call_on
-post_scale h t x = grind (arith, nat_tests, held_after (book_of h t) (motion_of x) the_scale, post_fit h t x, accepted_book h t (post x))
+post_scale h t x =
+    grind (arith, nat_tests, held_after (book_of h t) (motion_of x) the_scale, post_fit h t x, accepted_book h t (post x))

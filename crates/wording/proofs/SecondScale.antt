@@ -34,7 +34,8 @@ lay_again ps qs t e =
     let k : length (flat ps) ≡ 4 * length qs = length_flat ps ∙ rw e (sym (quad_is (length ps))) in
     ap (λ (l : List ℕ). flat qs ++ l) (drop_at (flat ps) (drop (4 * length ps) t) (4 * length qs) k ∙ rw e)
 
-accepted_own : (len n : ℕ) (cs : List Check) → T (named cs) → first (cs ++ (11 if ltb (places_in len) n ∷ [])) ≡ 0 → (first cs ≡ 0) × (n ≤ places_in len)
+accepted_own : (len n : ℕ) (cs : List Check) → T (named cs) → first (cs ++ (11 if ltb (places_in len) n ∷ [])) ≡ 0
+    → (first cs ≡ 0) × (n ≤ places_in len)
 accepted_own len n cs ok e = let a = first_append cs (11 if ltb (places_in len) n ∷ []) ok in grind (arith, nat_tests)
 
 module _ (scale len : ℕ) (b : Book) (x : Transfer) where
@@ -63,10 +64,12 @@ module _ (scale len : ℕ) (b : Book) (x : Transfer) where
     pub same_vessel : own len b up ≡ 0 → x.source ≡ x.destination → own len b whole ≡ 6
     -- where the lift is refused, so is the transfer; and with the same number, if nothing is amiss with the destination
     pub lift_decides : own len b up ≢ 0 → own len b whole ≢ 0
-    pub lift_number : x.destination < b.vessels → x.source ≢ x.destination → held x.destination b.pieces + x.weight ≤ TOP → own len b whole ≡ own len b up
+    pub lift_number : x.destination < b.vessels → x.source ≢ x.destination
+        → held x.destination b.pieces + x.weight ≤ TOP → own len b whole ≡ own len b up
 
   tip_length : (k : Book) → length (pieces_after k (motion_on (tip_terms scale (tip_part x)) k)) ≡ length k.pieces
-  tip_length k = let m = motion_on (tip_terms scale (tip_part x)) k in omega (arith, after_length k m, all_taken k m refl)
+  tip_length k =
+      let m = motion_on (tip_terms scale (tip_part x)) k in omega (arith, after_length k m, all_taken k m refl)
 
   -- The same pieces are picked, whoever they are handed to.
   same_taken : takes b (lift_motion scale (lift_part x)) ≡ takes b (motion_of x)
@@ -80,11 +83,13 @@ module _ (scale len : ℕ) (b : Book) (x : Transfer) where
   same_said = rw same_taken (refl, refl)
 
   -- what a transfer and a lift pass where they are accepted
-  post_passed : own len b whole ≡ 0 → (first (transfer_checks (of_book b) x) ≡ 0) × (length (pieces_after b (motion_of x)) ≤ places_in len)
+  post_passed : own len b whole ≡ 0
+      → (first (transfer_checks (of_book b) x) ≡ 0) × (length (pieces_after b (motion_of x)) ≤ places_in len)
   unfolding transfer_checks
   post_passed e = accepted_own len (length (pieces_after b (motion_of x))) (transfer_checks (of_book b) x) tt e
 
-  lift_passed : own len b up ≡ 0 → (first (lift_checks scale (of_book b) (lift_part x)) ≡ 0) × (length lifted.pieces ≤ places_in len)
+  lift_passed : own len b up ≡ 0
+      → (first (lift_checks scale (of_book b) (lift_part x)) ≡ 0) × (length lifted.pieces ≤ places_in len)
   unfolding lift_checks
   lift_passed e = accepted_own len (length lifted.pieces) (lift_checks scale (of_book b) (lift_part x)) tt e
 
@@ -98,7 +103,8 @@ module _ (scale len : ℕ) (b : Book) (x : Transfer) where
       on_scale : held scale lifted.pieces ≡ x.weight
       on_scale = grind (arith, nat_tests, held_after b (lift_motion scale (lift_part x)) scale, fits.source_in)
 
-      in_others : x.source ≢ x.destination → x.destination < b.vessels → held x.destination lifted.pieces ≡ held x.destination b.pieces
+      in_others : x.source ≢ x.destination → x.destination < b.vessels
+          → held x.destination lifted.pieces ≡ held x.destination b.pieces
       in_others apart inside = grind (arith, nat_tests, held_after b (lift_motion scale (lift_part x)) x.destination)
 
       same_pieces : pieces_after lifted (motion_on (tip_terms scale (tip_part x)) lifted) ≡ pieces_after b (motion_of x)
@@ -107,12 +113,14 @@ module _ (scale len : ℕ) (b : Book) (x : Transfer) where
           let lift = lift_motion scale (lift_part x) in
           let tip = motion_on (tip_terms scale (tip_part x)) lifted in
           let fair = takes_fair b lift in
-          let unmoved = handed_all lift.moves b.pieces _ fair (λ p. 1 ≤ p.weight) (λ p. 1 ≤ p.weight) (λ p w u q. u) (λ p q. q) (λ p e q. q) (λ u. u) weighty in
+          let unmoved =
+              handed_all lift.moves b.pieces _ fair (λ p. 1 ≤ p.weight) (λ p. 1 ≤ p.weight) (λ p w u q. u) (λ p q. q) (λ p e q. q) (λ u. u) weighty in
           let rest = (fair.keeps (λ p. p.holder ≢ scale) (λ p w u q. q) (none_held scale b.pieces weighty bare)).0 in
           ap (λ (rule : ℕ). handed tip.moves (taken rule tip.moves lifted.pieces)) ruleless ∙ ap (handed tip.moves) (swept_whole tip.moves lifted.pieces unmoved refl) ∙ passed_on lift.moves tip.moves (motion_of x).moves (takes b lift) rest refl refl refl refl
 
       next_is : down.next lifted ≡ whole.next b
-      next_is = λ i. record { rule = b.rule; vessels = b.vessels; last = x.minute; accepted = add-zero (b.accepted + 1) i; rules = b.rules; pieces = same_pieces i }
+      next_is =
+          λ i. record { rule = b.rule; vessels = b.vessels; last = x.minute; accepted = add-zero (b.accepted + 1) i; rules = b.rules; pieces = same_pieces i }
 
       table_is : (t : List ℕ) → down.table lifted (up.table b t) ≡ whole.table b t
       table_is t =
@@ -121,7 +129,8 @@ module _ (scale len : ℕ) (b : Book) (x : Transfer) where
 
       -- the tip's number: what was lifted is there and no time has passed, so that the destination alone decides; and
       -- so it is with the transfer's
-      tip_is : x.source ≢ x.destination → own len lifted down ≡ first (5 if leb b.vessels x.destination ∷ 9 if ltb TOP (held x.destination b.pieces + x.weight) ∷ [])
+      tip_is : x.source ≢ x.destination
+          → own len lifted down ≡ first (5 if leb b.vessels x.destination ∷ 9 if ltb TOP (held x.destination b.pieces + x.weight) ∷ [])
       unfolding tip_checks
       tip_is apart = grind (arith, nat_tests, on_scale, fits.weighty, in_others apart)
 
@@ -135,7 +144,8 @@ module _ (scale len : ℕ) (b : Book) (x : Transfer) where
       post_back same = grind (arith, nat_tests, fits.source_in)
 
     -- where nothing is amiss with the destination, the lift's number is the transfer's
-    lift_is : x.destination < b.vessels → x.source ≢ x.destination → held x.destination b.pieces + x.weight ≤ TOP → own len b whole ≡ own len b up
+    lift_is : x.destination < b.vessels → x.source ≢ x.destination → held x.destination b.pieces + x.weight ≤ TOP
+        → own len b whole ≡ own len b up
     unfolding transfer_checks lift_checks
     lift_is inside apart room = grind (arith, nat_tests, same_length)
 
@@ -159,5 +169,7 @@ module _ (scale len : ℕ) (b : Book) (x : Transfer) where
     }
 
 -- THE THEOREM, on every sound book, loaded or not, and every number for the scale.
-pub second_scale : (scale len : ℕ) (b : Book) → SoundBook len b → b.vessels ≤ scale → held scale b.pieces ≡ 0 → (x : Transfer) → Divides scale len b x
-second_scale scale len b o beyond bare x = divides scale len b x (all_map (λ p f. f.weighty) o.sound) beyond bare (rule_beyond b.vessels scale b.rules o.rules_known beyond)
+pub second_scale : (scale len : ℕ) (b : Book) → SoundBook len b → b.vessels ≤ scale → held scale b.pieces ≡ 0
+    → (x : Transfer) → Divides scale len b x
+second_scale scale len b o beyond bare x =
+    divides scale len b x (all_map (λ p f. f.weighty) o.sound) beyond bare (rule_beyond b.vessels scale b.rules o.rules_known beyond)

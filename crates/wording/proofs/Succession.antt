@@ -31,7 +31,8 @@ pub record Succession (h : Head) (t : List ℕ) (x : Transfer) (whole up down : 
   pub same_vessel : up.number ≡ 0 → x.source ≡ x.destination → whole.number ≡ 6
   -- where the lift is refused, so is the transfer; and with the same number, if nothing is amiss with the destination
   pub lift_decides : (up.number ≡ 0 → ⊥) → whole.number ≡ 0 → ⊥
-  pub lift_number : x.destination < h.vessels → x.source ≢ x.destination → balance_at h x.destination + x.weight ≤ TOP → whole.number ≡ up.number
+  pub lift_number : x.destination < h.vessels → x.source ≢ x.destination → balance_at h x.destination + x.weight ≤ TOP
+      → whole.number ≡ up.number
 
 module _ (h : Head) (t : List ℕ) (x : Transfer) where
   abbrev whole : Outcome
@@ -46,8 +47,10 @@ module _ (h : Head) (t : List ℕ) (x : Transfer) where
   -- On a book that is off, or a table that is too short, each is refused by that.
   off : (n : ℕ) → first (book_checks h t) ≡ suc n → Succession h t x whole up down
   off n e =
-      let a : whole.number ≡ suc n = call_number h t (post x) ∙ off_number h t (post x) (suc n) (sym e) (λ z. omega arith) in
-      let b : up.number ≡ suc n = call_number h t (lift (lift_part x)) ∙ off_number h t (lift (lift_part x)) (suc n) (sym e) (λ z. omega arith) in
+      let a : whole.number ≡ suc n =
+          call_number h t (post x) ∙ off_number h t (post x) (suc n) (sym e) (λ z. omega arith) in
+      let b : up.number ≡ suc n =
+          call_number h t (lift (lift_part x)) ∙ off_number h t (lift (lift_part x)) (suc n) (sym e) (λ z. omega arith) in
       grind arith
 
   -- On a book that adds up.
@@ -72,7 +75,8 @@ module _ (h : Head) (t : List ℕ) (x : Transfer) where
     some z = let k = (book_passed h t e).0 in omega arith
 
     -- a number is that of its own checks
-    own_number : (h' : Head) (t' : List ℕ) (b' : Book) → On len h' t' b' → SoundBook len b' → (c : Call) → (call_on h' t' c).number ≡ own len b' (meaning c)
+    own_number : (h' : Head) (t' : List ℕ) (b' : Book) → On len h' t' b' → SoundBook len b' → (c : Call)
+        → (call_on h' t' c).number ≡ own len b' (meaning c)
     unfolding number
     own_number h' t' b' on o c = call_number h' t' c ∙ number_same len h' t' b' on o c ∙ grind (arith, some)
 
@@ -88,7 +92,8 @@ module _ (h : Head) (t : List ℕ) (x : Transfer) where
       module _ (z : up.number ≡ 0) where
         step : InStep len h t b held_on sound (lift (lift_part x)) 0
         step =
-            let n = sym (number_same len h t b held_on sound (lift (lift_part x))) ∙ sym (call_number h t (lift (lift_part x))) ∙ z in
+            let n =
+                sym (number_same len h t b held_on sound (lift (lift_part x))) ∙ sym (call_number h t (lift (lift_part x))) ∙ z in
             subst (λ (n : ℕ). InStep len h t b held_on sound (lift (lift_part x)) n) n (in_step len h t b held_on sound (lift (lift_part x)))
 
         down_number : down.number ≡ own len (lifted the_scale len b x) (posting_meaning (tip_terms the_scale (tip_part x)))
@@ -109,7 +114,8 @@ module _ (h : Head) (t : List ℕ) (x : Transfer) where
           down_zero = down_number ∙ (common.both_pass passed).1
 
           down_is : down ≡ outcome up.head up.table (meaning (tip (tip_part x))) 0
-          down_is = accepted_on up.head up.table (tip (tip_part x)) (sym (call_number up.head up.table (tip (tip_part x))) ∙ down_zero)
+          down_is =
+              accepted_on up.head up.table (tip (tip_part x)) (sym (call_number up.head up.table (tip (tip_part x))) ∙ down_zero)
 
           book_is : book_of up.head up.table ≡ lifted the_scale len b x
           book_is = back len up.head up.table _ step.holds step.sound
@@ -140,7 +146,9 @@ module _ (h : Head) (t : List ℕ) (x : Transfer) where
 
       on : Succession h t x whole up down
       on = record {
-        same_outcome = λ w. let z = lift_first w in let s = same_answer z w in (z, down_zero z w, same_head z w, same_table z w, s.0, s.1);
+        same_outcome =
+            λ w. let z =
+                lift_first w in let s = same_answer z w in (z, down_zero z w, same_head z w, same_table z w, s.0, s.1);
         tip_decides = λ z apart. number_is (post x) ∙ common.tip_decides (accepted z) apart ∙ sym (down_number z);
         same_vessel = λ z same. number_is (post x) ∙ common.same_vessel (accepted z) same;
         lift_decides = λ u w. u (lift_first w);
@@ -159,7 +167,8 @@ succession h t x bare = go (first (book_checks h t)) refl
 
 -- BESIDE THE LOAD: "a transfer leaves what a lift onto a second, empty scale and its tip would leave", whatever lies on
 -- the book's own. The second scale has any number that is no vessel's and holds nothing.
-pub beside_the_load : (h : Head) (t : List ℕ) (x : Transfer) (scale : ℕ) → h.vessels ≤ scale → held scale (book_of h t).pieces ≡ 0 → (call_on h t (post x)).number ≡ 0
+pub beside_the_load : (h : Head) (t : List ℕ) (x : Transfer) (scale : ℕ) → h.vessels ≤ scale
+    → held scale (book_of h t).pieces ≡ 0 → (call_on h t (post x)).number ≡ 0
     → let now = book_of h t in
     let up = posting_meaning (lift_terms scale (lift_part x)) in
     let down = posting_meaning (tip_terms scale (tip_part x)) in
