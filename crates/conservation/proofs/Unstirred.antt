@@ -43,9 +43,9 @@ module _ (len : ℕ) where
     where
       go : (n : ℕ) → number len b c ≡ n → stirs es ≡ false
       go zero q =
-          let r =
-              rw q at e in let next : Unused ((meaning c).next b) es z =
-                  rw q at rest in next (still_unstirred b c (grind arith) none) (grind arith)
+          let r = rw q at e in
+          let next : Unused ((meaning c).next b) es z = rw q at rest in
+          next (still_unstirred b c (grind arith) none) (grind arith)
       go (suc n) q = let r = rw q at e in let next : Unused b es z = rw q at rest in next none r
 
 -- from any opening on

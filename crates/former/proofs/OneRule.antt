@@ -98,15 +98,16 @@ module _ (h : Head) (t : List ℕ) (unset : h.rules ≡ given_rules h.rule h.ves
     where
       go : (n : ℕ) → (terms v).counts ≡ n → call_on h t (enter v) ≡ one_rule_on h t (enter v)
       go zero z =
-          let same : one_rule (enter v) ≡ meaning (enter v) =
-              rw z refl in as_ever (enter v) (λ a. ap (λ (x : Meaning). first (x.checks (length t) b)) (sym same)) (ap (λ (x : Meaning). x.refused) (sym same)) (ap (λ (x : Meaning). x.stirs) (sym same)) (λ a e. ap (λ (x : Meaning). outcome h t x 0) (sym same))
+          let same : one_rule (enter v) ≡ meaning (enter v) = rw z refl in
+          as_ever (enter v) (λ a. ap (λ (x : Meaning). first (x.checks (length t) b)) (sym same)) (ap (λ (x : Meaning). x.refused) (sym same)) (ap (λ (x : Meaning). x.stirs) (sym same)) (λ a e. ap (λ (x : Meaning). outcome h t x 0) (sym same))
       go (suc n) z = posted_as_before v (omega arith)
   as_before (set_rule s) u = cc
   as_before c u = as_ever c (λ a. refl) refl refl (λ a e. refl)
 
   -- and it leaves the rules as they were given
-  pub still_unset : (c : Call) → sets_rule c ≡ false → let z =
-      (call_on h t c).head in z.rules ≡ given_rules z.rule z.vessels
+  pub still_unset : (c : Call) → sets_rule c ≡ false →
+      let z = (call_on h t c).head in
+      z.rules ≡ given_rules z.rule z.vessels
   still_unset c u = rw (rules_kept h t c u, (rule_kept h t c).0, (rule_kept h t c).1) unset
 
   -- and no more pieces than accepted transfers
@@ -142,12 +143,14 @@ never_set (c ∷ cs) h t unset counted = go (sets_rule c) refl (never_set cs)
         rw (← (as_before h t unset counted c e)) (ap (noted c o) (rest o.head o.table (still_unset h t unset counted c e) (still_counted h t unset counted c)))
 
 -- so from any opening on
-pub opened_unset : (rule size : ℕ) → let h =
-    (opening rule size).head in (h.rules ≡ given_rules h.rule h.vessels) × (h.pieces ≤ h.accepted)
+pub opened_unset : (rule size : ℕ) →
+    let h = (opening rule size).head in
+    (h.rules ≡ given_rules h.rule h.vessels) × (h.pieces ≤ h.accepted)
 unfolding opening
 opened_unset rule size = go (first (open_checks rule size))
   where
-    go : (n : ℕ) → let h =
-        (opens rule size n).head in (h.rules ≡ given_rules h.rule h.vessels) × (h.pieces ≤ h.accepted)
+    go : (n : ℕ) →
+        let h = (opens rule size n).head in
+        (h.rules ≡ given_rules h.rule h.vessels) × (h.pieces ≤ h.accepted)
     go zero = (refl, omega arith)
     go (suc n) = (refl, omega arith)

@@ -70,8 +70,8 @@ module _ (h : Head) (t : List ℕ) (why : Refusal) (e : number_of why ≡ first 
   room_kept (Tip y) room = refl
   room_kept (Setting s) room = refl
   room_kept (Report q) room =
-      let c =
-      Calls.ask q room in rw (refused_on h t c _ (off_number h t c _ e (some_number why)) (some_number why)) refl
+      let c = Calls.ask q room in
+      rw (refused_on h t c _ (off_number h t c _ e (some_number why)) (some_number why)) refl
 
   off_all : (l : List Call) (room : List ℕ)
       → carried l h t room ≡ record { numbers = replicate (length l) (number_of why); head = h; table = t; room = room }

@@ -80,8 +80,8 @@ module _ (h : Head) (t : List ℕ) where
       → let w = report_row h.vessels ps q in (take (length w) (call_on h t (ask q room)).room ≡ w) × (drop (length w) (call_on h t (ask q room)).room ≡ drop (length w) room)
   unfolding call_on
   report_in_words q room z =
-      let e =
-          sym (call_number h t (ask q room)) ∙ z in rw (e, all_pass ps) (take_at (report_row h.vessels ps q) _ _ refl, drop_at (report_row h.vessels ps q) _ _ refl)
+      let e = sym (call_number h t (ask q room)) ∙ z in
+      rw (e, all_pass ps) (take_at (report_row h.vessels ps q) _ _ refl, drop_at (report_row h.vessels ps q) _ _ refl)
 
   -- A refusal returns its number with all other answer numbers 0 and the head as given; no lent memory changes, the
   -- room of a report neither.

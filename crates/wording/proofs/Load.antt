@@ -56,8 +56,8 @@ module _ (h : Head) (t : List ℕ) where
   pub loaded_refuses : 0 < h.scale → first (book_checks h t) ≡ 0 → (x : Lift) → number_of h t (lift x) ≡ 22
   unfolding lift_checks
   loaded_refuses u e x =
-      let a =
-          adds_up_told h t (book_passed h t e).1 in grind (arith, nat_tests, a.scale_is, on_number h t (lift x) 0 (sym e) refl)
+      let a = adds_up_told h t (book_passed h t e).1 in
+      grind (arith, nat_tests, a.scale_is, on_number h t (lift x) 0 (sym e) refl)
 
   pub lift_alone : (x : Transfer) (y : Tip) (s : Setting) (q : Report) (room : List ℕ)
       → (number_of h t (post x) ≢ 22) × (number_of h t (tip y) ≢ 22) × (number_of h t (set_rule s) ≢ 22) × (number_of h t (ask q room) ≢ 22)

@@ -32,8 +32,9 @@ use Rattle.book.proofs.Accepted.{accepted_book}
 -- What a call o leaves of the pieces ps and the table t, where it moves m out of a stirred vessel that has more.
 pub record GivesFromAll (m : Move) (ps : List Piece) (t : List ℕ) (o : Outcome) : Type 0 where
   pub table : o.table ≡ lay (left_of (gifts m ps) ps ++ map (hand_to m.destination) (given_by (gifts m ps) ps)) t
-  pub near : (i : ℕ) → let T =
-      held m.source ps in Within T (get_or (gifts m ps) i 0 * T) (m.weight * get_or (weights_in m.source ps) i 0)
+  pub near : (i : ℕ) →
+      let T = held m.source ps in
+      Within T (get_or (gifts m ps) i 0 * T) (m.weight * get_or (weights_in m.source ps) i 0)
   pub gifts_are : sum_of (gifts m ps) ≡ m.weight
   -- "the answer's split mark becomes a count of splits": of a piece that is split there is one more
   pub split : o.answer.split + length ps ≡ length (left_of (gifts m ps) ps) + length (given_by (gifts m ps) ps)

@@ -147,8 +147,9 @@ module _ (h : Head) (t : List ℕ) (x : Transfer) where
       on : Succession h t x whole up down
       on = record {
         same_outcome =
-            λ w. let z =
-                lift_first w in let s = same_answer z w in (z, down_zero z w, same_head z w, same_table z w, s.0, s.1);
+            λ w.
+                let z = lift_first w in
+                let s = same_answer z w in (z, down_zero z w, same_head z w, same_table z w, s.0, s.1);
         tip_decides = λ z apart. number_is (post x) ∙ common.tip_decides (accepted z) apart ∙ sym (down_number z);
         same_vessel = λ z same. number_is (post x) ∙ common.same_vessel (accepted z) same;
         lift_decides = λ u w. u (lift_first w);
