@@ -57,7 +57,9 @@ function import(line,    at, from, n, i, names) {
 # the name of its type before its own; of an impl of a trait the ghost members are shown, which say what its methods do.
 function code(line,    at) {
     if (line ~ /^impl/) owner = owner_of(line)
-    if (line ~ /^[}]/) owner = ""
+    if (line ~ /^pub trait /) { trait = line; sub(/^pub /, "", trait); sub(/ *[{].*/, "", trait); return }
+    if (line ~ /^[}]/) owner = trait = ""
+    if (trait != "") { asked_of(line); return }
     sub(/^ +/, "", line)
     sub(/ *\/\/.*/, "", line)
     if (head == "" && line !~ /^pub ((extern "C" )?fn|struct|enum) / && !(owner ~ / for / && line ~ /^ghost [A-Za-z_]+ = /)) return
@@ -77,6 +79,18 @@ function code(line,    at) {
         if (owner != "") sub(/fn /, "fn " owner "::", head)
         keep("function", head)
     }
+    head = ""
+}
+
+# A line of a trait: its ghost members and its functions, each with its clauses, go on to the semicolon that ends them.
+function asked_of(line) {
+    sub(/^ +/, "", line)
+    sub(/ *\/\/.*/, "", line)
+    if (line == "") return
+    head = head == "" ? line : head " " line
+    if (line !~ /;$/) return
+    sub(/;$/, "", head)
+    keep("function", trait " " head)
     head = ""
 }
 

@@ -113,7 +113,7 @@ module _ (rule : ℕ) (numbers : List ℕ) (cs cs' : List Call) (room_is : lengt
             let em : m ≡ n = grind (arith, e, d.0) in
             let long : n ≤ length asked = omega (arith, count_in n numbers) in
             let front : take m cs' ≡ asked =
-                rw (em, d.1) (take-append-le n asked (drop n cs) long ∙ all_of n asked (count_in n numbers)) in
+            rw (em, d.1) (take-append-le n asked (drop n cs) long ∙ all_of n asked (count_in n numbers)) in
             by_opening u (rw front at w) (first (open_checks rule vessels)) refl
 
 pub calls_shown : (text numbers : List ℕ) (count : ℕ) → count ≡ min (length (numbers_in text)) (1 + calls_room)
