@@ -74,7 +74,7 @@ module _ (p : Terms) (ok : Proper p) (len : ℕ) (b : Book) (w : WeighBook) (r :
 
   free_number : let n = or_else (1 if eqb (places_in len) 0) (own len b (posting_meaning p)) in
       (posting_meaning p).stirs b n ≡ false → length b.pieces + p.counts ≤ places_in len
-          → (1 ≤ 1 - p.counts → 1 ≤ places_in len)
+      → (1 ≤ 1 - p.counts → 1 ≤ places_in len)
       → n ≡ of_checks p ok len b
   free_number u h k = let one = ok.once in grind (arith, nat_tests, posted_own p ok len b, posted_count p ok len b)
 

@@ -50,7 +50,7 @@ module _ (len : ℕ) where
           let next : Followed ((meaning c).next b) es z = rw e at rest in
           let i = next ((weighing c).next w) a.beside in
           let count : stirs (entry len b c ∷ es) ≡ false
-              → length ((meaning c).next b).pieces + (meaning c).even b ≡ length b.pieces + (meaning c).counts =
+          → length ((meaning c).next b).pieces + (meaning c).even b ≡ length b.pieces + (meaning c).counts =
           λ q. count_kept len b c (grind (arith, e)) in
           record {
             in_turn = rw e i.in_turn;

@@ -54,7 +54,7 @@ pub first_rules : (rule size : ℕ) → (opening rule size).number ≡ 0 → (t 
 first_rules rule size e t cs none =
     let o = opening_passed rule size e in
     let given : Unstirred (opened rule size).rules =
-        given_unstirred rule size (openable rule size o.0).rule_known (openable rule size o.0).few_vessels in
+    given_unstirred rule size (openable rule size o.0).rule_known (openable rule size o.0).few_vessels in
     (from_opening (length t) (Unused (length t)) (λ b u e. refl) (more (length t)) rule size e t refl cs).related given none
 
 -- what holds of all calls of a list holds of those answered 0

@@ -31,7 +31,7 @@ module _ (h : Head) (t : List ℕ) (s d m q : ℕ) (z : h.scale ≡ 0) (unset : 
   same_number : one_rule_number h t (post (unaged s d m q)) ≡ former_number h t s d m q
   same_number =
       let former =
-          first_append (former_book_checks h t) ((former_meaning s d m q).checks (length t) (book_of h t)) tt in
+      first_append (former_book_checks h t) ((former_meaning s d m q).checks (length t) (book_of h t)) tt in
       grind (arith, former_split h t unset counted (post (unaged s d m q)), own_number, same_checks, former)
 
   pub age_zero : call_on h t (post (unaged s d m q)) ≡ former_on h t s d m q

@@ -51,6 +51,6 @@ bare_book h t z unset = grind (arith, nat_tests, alike, given_fit h.rule h.vesse
         let lie = in_vessels h.vessels h.last ps in
         let fit = all_sound h.vessels h.last ps in
         let there : held the_scale ps ≡ 0 → one ≡ true → other ≡ true =
-            λ w u. bare_former h.vessels h.last (lie (fit u) w) u in
+        λ w u. bare_former h.vessels h.last (lie (fit u) w) u in
         let back = former_bare h.vessels h.last small ps in
         grind (arith, nat_tests, there, back)

@@ -127,7 +127,7 @@ module _ (h : Head) (t : List ℕ) (unset : h.rules ≡ given_rules h.rule h.ves
 abbrev AsBefore : List Call → Type 0
 AsBefore cs =
     (h : Head) (t : List ℕ) → h.rules ≡ given_rules h.rule h.vessels → h.pieces ≤ h.accepted
-        → calls_on h t cs ≡ one_rule_calls h t cs
+    → calls_on h t cs ≡ one_rule_calls h t cs
 
 -- THE THEOREM: for every list of calls, any settings left out.
 pub never_set : (cs : List Call) → AsBefore (without_settings cs)

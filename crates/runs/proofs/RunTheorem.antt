@@ -122,7 +122,7 @@ module _ (s t : List ℕ) (e : run_number s t ≡ 0) where
     unstirred =
         let xs = take f.tried (transfers_of s) in
         let given =
-            answered_all (λ c. not (sets_stirred c)) (map post xs) (opening (rule_of s) (vessels_of s)).head t (posts_set_none xs) in
+        answered_all (λ c. not (sets_stirred c)) (map post xs) (opening (rule_of s) (vessels_of s)).head t (posts_set_none xs) in
         first_rules (rule_of s) (vessels_of s) (opened_well s reads) t (map post xs) given;
     passed = λ z. let k = f.all_made z ∙ length_groups _ _ (movements_of s) _ in omega (arith, rw z at f.index_is);
   })
@@ -165,12 +165,12 @@ without_posts (x ∷ xs) = ap (λ (cs : List Call). post x ∷ cs) (without_post
 pub run_one_rule : (s t : List ℕ) (e : run_number s t ≡ 0)
     → let r = running s t in
     let j =
-        one_rule_calls (opening (rule_of s) (vessels_of s)).head t (calls_from (run_theorem s t e).folded.tried (transfers_of s)) in
+    one_rule_calls (opening (rule_of s) (vessels_of s)).head t (calls_from (run_theorem s t e).folded.tried (transfers_of s)) in
     (r.answer.head ≡ j.head) × (r.table ≡ j.table)
 run_one_rule s t e =
     let f = (run_theorem s t e).folded in
     let xs = take f.tried (transfers_of s) in
     let fresh = opened_unset (rule_of s) (vessels_of s) in
     let same =
-        rw (without_posts xs) at (never_set (map post xs) (opening (rule_of s) (vessels_of s)).head t fresh.0 fresh.1) in
+    rw (without_posts xs) at (never_set (map post xs) (opening (rule_of s) (vessels_of s)).head t fresh.0 fresh.1) in
     (f.head_is ∙ ap (λ (j : Journal). j.head) same, f.table_is ∙ ap (λ (j : Journal). j.table) same)

@@ -74,7 +74,7 @@ module _ (h : Head) (t : List ℕ) where
         let p = terms v in
         let a = accepted_book h t (enter v) e in
         let own =
-            first_zero _ _ (sym (posted_own p (proper v) (length t) (book_of h t)) ∙ checks_passed h t (enter v) e) in
+        first_zero _ _ (sym (posted_own p (proper v) (length t) (book_of h t)) ∙ checks_passed h t (enter v) e) in
         let f = (proper v).fits (of_book (book_of h t)) own in
         let i : p.source < h.vessels = f.from_vessel (omega arith) in
         let few = a.vessels_fit in
@@ -121,7 +121,7 @@ pub tip_comes_last : (cs : List Call) (h : Head) (t : List ℕ) (y : Tip) → h.
     → let r = calls_on h t cs in
     let o = call_on r.head r.table (tip y) in
     o.number ≡ 0
-        → o.table ≡ lay (elsewhere the_scale (pieces_of r.head.pieces r.table) ++ map (hand_to y.destination) (load h t)) r.table
+    → o.table ≡ lay (elsewhere the_scale (pieces_of r.head.pieces r.table) ++ map (hand_to y.destination) (load h t)) r.table
 tip_comes_last cs h t y loaded u e =
     let r = calls_on h t cs in
     rw (← (load_waits cs h t loaded u)) (tip_in_words r.head r.table y e)

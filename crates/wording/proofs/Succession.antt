@@ -48,9 +48,9 @@ module _ (h : Head) (t : List ℕ) (x : Transfer) where
   off : (n : ℕ) → first (book_checks h t) ≡ suc n → Succession h t x whole up down
   off n e =
       let a : whole.number ≡ suc n =
-          call_number h t (post x) ∙ off_number h t (post x) (suc n) (sym e) (λ z. omega arith) in
+      call_number h t (post x) ∙ off_number h t (post x) (suc n) (sym e) (λ z. omega arith) in
       let b : up.number ≡ suc n =
-          call_number h t (lift (lift_part x)) ∙ off_number h t (lift (lift_part x)) (suc n) (sym e) (λ z. omega arith) in
+      call_number h t (lift (lift_part x)) ∙ off_number h t (lift (lift_part x)) (suc n) (sym e) (λ z. omega arith) in
       grind arith
 
   -- On a book that adds up.
@@ -93,7 +93,7 @@ module _ (h : Head) (t : List ℕ) (x : Transfer) where
         step : InStep len h t b held_on sound (lift (lift_part x)) 0
         step =
             let n =
-                sym (number_same len h t b held_on sound (lift (lift_part x))) ∙ sym (call_number h t (lift (lift_part x))) ∙ z in
+            sym (number_same len h t b held_on sound (lift (lift_part x))) ∙ sym (call_number h t (lift (lift_part x))) ∙ z in
             subst (λ (n : ℕ). InStep len h t b held_on sound (lift (lift_part x)) n) n (in_step len h t b held_on sound (lift (lift_part x)))
 
         down_number : down.number ≡ own len (lifted the_scale len b x) (posting_meaning (tip_terms the_scale (tip_part x)))
@@ -148,8 +148,8 @@ module _ (h : Head) (t : List ℕ) (x : Transfer) where
       on = record {
         same_outcome =
             λ w.
-                let z = lift_first w in
-                let s = same_answer z w in (z, down_zero z w, same_head z w, same_table z w, s.0, s.1);
+            let z = lift_first w in
+            let s = same_answer z w in (z, down_zero z w, same_head z w, same_table z w, s.0, s.1);
         tip_decides = λ z apart. number_is (post x) ∙ common.tip_decides (accepted z) apart ∙ sym (down_number z);
         same_vessel = λ z same. number_is (post x) ∙ common.same_vessel (accepted z) same;
         lift_decides = λ u w. u (lift_first w);
