@@ -9,7 +9,7 @@ use Rattle.book.specs.declared.Lift.{Lift}
 use Rattle.book.specs.declared.Setting.{Setting}
 use Rattle.book.specs.Head.{the_scale, book_of}
 use Rattle.book.specs.Motion.{of_book}
-use Rattle.book.specs.Transfer.{transfer_checks}
+use Rattle.book.specs.Transfer.{transfer_checks, motion_of}
 use Rattle.book.specs.Scale.{lift_checks}
 use Rattle.book.specs.Setting.{ruled}
 use Rattle.book.specs.Calls.{Call, post, lift, set_rule, meaning}
@@ -17,6 +17,7 @@ use Rattle.book.specs.Memory.{number_of, call_on}
 use Rattle.book.proofs.Checks.{Fit, LiftFit}
 use Rattle.book.proofs.Memory.{on_number, passed_book, book_passed}
 use Rattle.book.proofs.Known.{AddsUp, adds_up_told, adds_head}
+use Rattle.book.proofs.Sound.{held_after}
 
 module _ (h : Head) (t : List ℕ) where
   -- a call that is answered 0 has passed its own checks, on a book that adds up
@@ -43,3 +44,9 @@ module _ (h : Head) (t : List ℕ) where
   pub ruled_is : (s : Setting) → number_of h t (set_rule s) ≡ 0 → (call_on h t (set_rule s)).head ≡ ruled h s
   unfolding call_on ruled
   ruled_is s e = rw e (ap (λ (k : Head). ruled k s) (sym (adds_head h t (accepted_book (set_rule s) e))))
+
+-- a transfer leaves the scale as it was
+pub post_scale : (h : Head) (t : List ℕ) (x : Transfer) → (call_on h t (post x)).head.scale ≡ h.scale
+unfolding call_on
+post_scale h t x =
+    grind (arith, nat_tests, held_after (book_of h t) (motion_of x) the_scale, post_fit h t x, accepted_book h t (post x))

@@ -9,12 +9,12 @@ use Rattle.refusal.specs.Numbers.{TOP, first}
 use Rattle.book.specs.declared.Head.{Head}
 use Rattle.book.specs.declared.Report.{Report}
 use Rattle.book.specs.declared.Report.TheVariants.{Held, Spread, Whole}
-use Rattle.book.specs.Head.{most_vessels, the_scale, tab, balances_of, every, same, adds_up, empty_head, opening, rules_fit, all_zero, given_rules}
+use Rattle.book.specs.Head.{most_vessels, the_scale, tab, balances_of, every, same, adds_up, empty_head, opening, rules_fit, all_zero, given_rules, opened, Book}
 use Rattle.book.specs.Motion.{Standing}
 use Rattle.book.specs.Transfer.{transfer_of, transfer_checks}
 use Rattle.book.specs.Scale.{lift_of, tip_of, lift_checks, tip_checks}
 use Rattle.book.specs.Setting.{setting_of, setting_checks}
-use Rattle.book.specs.Reports.{asked_checks}
+use Rattle.book.specs.Reports.{asked_checks, report_checks}
 use Rattle.book.specs.Calls.{post, lift, tip, set_rule, ask}
 use Rattle.book.specs.Memory.{book_checks, number_of}
 use Rattle.book.specs.Lists.{tips}
@@ -59,7 +59,7 @@ lower scale d t = first (tip_checks the_scale (stand scale TOP) (tip_of d t))
 
 -- the number of a report on three vessels, with so much room
 abbrev report : Report → ℕ → ℕ
-report q room = first (asked_checks 3 room q)
+report q room = first (report_checks (opened 0 3) room q)
 
 abbrev ◌gives◌ : ℕ → ℕ → Edge
 n gives m = record { found = n; wanted = m }
@@ -238,9 +238,10 @@ unfolding number_of book_checks adds_up rules_fit all_zero every same balances_o
 fresh_report q room = refl
 
 -- However far off the vessel of a held report or the origin of a spread one is, it is 5, and before all else.
-pub no_vessel : (size v from to room : ℕ) → size ≤ v → (first (asked_checks size room (Held v)) ≡ 5) × (first (asked_checks size room (Spread v from to)) ≡ 5)
+pub no_vessel : (b : Book) (v from to room : ℕ) → b.vessels ≤ v
+    → (first (report_checks b room (Held v)) ≡ 5) × (first (report_checks b room (Spread v from to)) ≡ 5)
 unfolding asked_checks
-no_vessel size v from to room h = grind (arith, nat_tests)
+no_vessel b v from to room h = grind (arith, nat_tests)
 
 -- Opening gives every vessel of the book its rule, and no other.
 pub opened_rules : ((opening 3 2).head.rules ≡ 3 ∷ 3 ∷ replicate 62 0) × ((opening 2 64).head.rules ≡ replicate 64 2)

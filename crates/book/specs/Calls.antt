@@ -1,5 +1,5 @@
--- Calls on a book. A call is data, so that a list of calls is a list, and all that document 01 says of a call is one
--- clause of `meaning`.
+-- Calls on a book. A call is data, so that a list of calls is a list, and all that is said of a call is one clause of
+-- `meaning`.
 -- Definitions only. Assumes nothing.
 use Rattle.std.specs.Prelude.{Bool, true, false, ◌&&◌, ◌||◌, ◌==◌, List, [], ◌∷◌, ◌++◌, filter, ℕ, zero, suc, ◌+◌, ltb, length}
 use Rattle.table.specs.declared.Piece.{Piece}
@@ -19,7 +19,6 @@ use Rattle.book.specs.Transfer.{transfer_terms}
 use Rattle.book.specs.Scale.{lift_terms, tip_terms}
 use Rattle.book.specs.Setting.{setting_checks, with_rule}
 use Rattle.book.specs.Reports.{report_row, report_checks, onto}
-use Rattle.std.specs.List.{filter}
 
 -- What can be posted, and its terms.
 pub data Posting : Type 0 where
@@ -147,5 +146,6 @@ every_piece p = true
 
 abbrev pub meaning : Call → Meaning
 meaning (enter p) = posting_meaning (terms p)
-meaning (set_rule s) = record (unmoved (λ len b. setting_checks b.vessels s) (λ b. silence []) []) { next = λ b. with_rule b s }
+meaning (set_rule s) =
+    record (unmoved (λ len b. setting_checks b.vessels s) (λ b. silence []) []) { next = λ b. with_rule b s }
 meaning (ask q room) = report_meaning every_piece q room

@@ -32,10 +32,26 @@ number_of h t c = first (book_checks h t ++ (meaning c).checks (length t) (book_
 abbrev pub outcome : Head → List ℕ → Meaning → ℕ → Outcome
 outcome h t m zero =
     let b = book_of h t in
-    record { number = 0; answer = (m.told b).answer; head = head_of (m.next b); table = m.table b t; room = (m.told b).room; even = m.even b; stirred = m.stirs b 0 }
+    record {
+      number = 0;
+      answer = (m.told b).answer;
+      head = head_of (m.next b);
+      table = m.table b t;
+      room = (m.told b).room;
+      even = m.even b;
+      stirred = m.stirs b 0;
+    }
 outcome h t m (suc n) =
     let r = m.refused (suc n) (length t) (book_of h t) in
-    record { number = suc n; answer = r.answer; head = h; table = t; room = r.room; even = 0; stirred = m.stirs (book_of h t) (suc n) }
+    record {
+      number = suc n;
+      answer = r.answer;
+      head = h;
+      table = t;
+      room = r.room;
+      even = 0;
+      stirred = m.stirs (book_of h t) (suc n);
+    }
 
 -- a call on a head and a table
 unfoldable pub call_on : Head → List ℕ → Call → Outcome

@@ -16,7 +16,7 @@ lift_of s t q age = record { source = s; minute = t; weight = q; age = age }
 abbrev pub tip_of : ℕ → ℕ → Tip
 tip_of d t = record { destination = d; minute = t }
 
--- "A transfer is divided": into this lift and this tip. `second_scale` (proofs/SecondScale.antt) shows that it leaves
+-- "A transfer is divided": into this lift and this tip. `second_scale` (wording/proofs/SecondScale.antt) shows that it leaves
 -- what they leave, whatever lies on the book's own scale, and `succession` that these can be calls where nothing does.
 abbrev pub lift_part : Transfer → Lift
 lift_part x = lift_of x.source x.minute x.weight x.age

@@ -1,5 +1,6 @@
 -- Worked cases: calls on a fresh book of three vessels, what is looked at afterwards, and what is to be seen then.
--- `Marked`, `Ages`, `Scale` and `Load` have tables of them, over the definitions that the contracts cite.
+-- `Marked`, `AgeCases`, `ScaleCases`, `LoadCases` and `Mixed` have tables of them, over the definitions that the
+-- contracts cite.
 -- Assumes nothing.
 use Rattle.std.proofs.Common.{List, [], ◌∷◌, ◌++◌, map, ℕ, replicate}
 use Rattle.table.specs.Table.{pieces_of, flat}

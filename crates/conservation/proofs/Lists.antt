@@ -1,5 +1,6 @@
--- Demand 3: one claim about a whole list of calls, on the head of an accepted opening and a table of any length and
--- content. By induction over the list, with the book that head and table hold and the weigh book beside it.
+-- THE CONSERVATION THEOREM: one claim about a whole list of calls, on the head of an accepted opening and a table of any
+-- length and content. An instance of the one induction over lists (book/proofs/Along.antt): what is kept is that the
+-- weigh book walks beside the book.
 -- Assumes nothing.
 use Rattle.std.proofs.Common.{◌≡◌, refl, ap, false, List, [], ◌∷◌, ℕ, zero, suc, ◌+◌, ◌≤◌, arith, length, ◌∙◌}
 use Rattle.table.specs.Table.{places_of, places_in}
@@ -7,8 +8,7 @@ use Rattle.book.specs.Head.{Book, opened, opening}
 use Rattle.book.specs.Calls.{Call, meaning}
 use Rattle.conservation.specs.WeighBook.{WeighBook, weighing, blank, feed, forecast}
 use Rattle.book.specs.Lists.{Entry, Journal, calls_on, all_asked, answered, transfers, tips, evens, stirs}
-use Rattle.conservation.specs.Conservation.{follow}
-use Rattle.conservation.specs.Conservation.{numbers, Demand3}
+use Rattle.conservation.specs.Conservation.{follow, numbers, Demand3}
 use Rattle.book.proofs.Sound.{number, SoundBook, keeps, count_kept}
 use Rattle.conservation.proofs.Beside.{Beside, Walks, walks}
 use Rattle.book.proofs.Memory.{back, adds}
@@ -90,7 +90,7 @@ module _ (rule size : ℕ) (e : (opening rule size).number ≡ 0) (t : List ℕ)
   followed =
       ended.related (blank size) (record { same_size = refl; weights = λ v. refl; births = λ o t. refl; same_last = refl; same_count = refl })
 
-  -- DEMAND 3: for every opening that is accepted, every table and every list of calls.
+  -- The theorem: for every opening that is accepted, every table and every list of calls.
   pub demand_3 : Demand3 rule size t cs (calls_on (opening rule size).head t cs)
   unfolding places_in
   demand_3 =

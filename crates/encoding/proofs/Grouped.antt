@@ -9,7 +9,7 @@ use Rattle.refusal.specs.declared.Refusal.{Refusal}
 use Rattle.refusal.specs.Refusals.{number_of}
 use Rattle.refusal.proofs.Refusals.{some_number}
 use Rattle.journal.specs.declared.Call.{Call}
-use Rattle.encoding.specs.Encoding.{call_size, listed, age_off, ages_off, calls_in, count_calls, Reads}
+use Rattle.encoding.specs.Encoding.{call_size, call_listed, age_off, ages_off, calls_in, count_calls, Reads}
 
 -- the first n calls, six numbers each
 abbrev pub groups : ℕ → List ℕ → List (List ℕ)
@@ -33,8 +33,8 @@ module _ (l : List ℕ) where
   unfolding age_off
   group_age = rw (six 0 (omega arith), six 4 (omega arith), six 5 (omega arith)) refl
 
-  group_call : listed (take call_size l) ≡ listed l
-  unfolding listed
+  group_call : call_listed (take call_size l) ≡ call_listed l
+  unfolding call_listed
   group_call =
       rw (six 0 (omega arith), six 1 (omega arith), six 2 (omega arith), six 3 (omega arith), six 4 (omega arith), six 5 (omega arith)) refl
 
@@ -43,7 +43,7 @@ unfolding ages_off
 grouped_ages zero l = refl
 grouped_ages (suc n) l = ap₂ (λ (a b : Bool). a || b) (group_age l) (grouped_ages n (drop call_size l))
 
-grouped_calls : (n : ℕ) (l : List ℕ) → map listed (groups n l) ≡ calls_in n l
+grouped_calls : (n : ℕ) (l : List ℕ) → map call_listed (groups n l) ≡ calls_in n l
 unfolding calls_in
 grouped_calls zero l = refl
 grouped_calls (suc n) l =
@@ -85,7 +85,7 @@ module _ (l : List ℕ) (cs : List Call) (gs : List (List ℕ)) (n : ℕ) (ea : 
     pub fill_ready : (length (take n gs) ≤ length cs) × (list_any age_off (take n gs) ≡ false)
     fill_ready = (omega (arith, size, en), none_off)
 
-    pub read_done : (cs' : List Call) → cs' ≡ map listed (take n gs) ++ drop (length (take n gs)) cs
+    pub read_done : (cs' : List Call) → cs' ≡ map call_listed (take n gs) ++ drop (length (take n gs)) cs
         → Reads l cs cs' (Ok n)
     read_done cs' ec =
         let a : ages_off (count_calls l (length cs)) l ≡ false = rw (← the_ages) none_off in

@@ -11,7 +11,7 @@ use Rattle.refusal.specs.declared.Refusal.{Refusal}
 use Rattle.refusal.specs.Refusals.{number_of}
 use Rattle.std.proofs.lemmas.Bool.{or_parts}
 use Rattle.journal.specs.declared.Call.{Call}
-use Rattle.encoding.specs.Encoding.{listed, age_off}
+use Rattle.encoding.specs.Encoding.{call_listed, age_off}
 use Rattle.encoding.specs.Reading.{call_read}
 
 -- what was read, where an age is off and where none is
@@ -19,7 +19,7 @@ read_off : (l : List ℕ) (why : Refusal) → call_read l ≡ Err why → (age_o
 unfolding call_read
 read_off l why e = grind (arith, common_steps)
 
-read_on : (l : List ℕ) (c : Call) → call_read l ≡ Ok c → (age_off l ≡ false) × (c ≡ listed l)
+read_on : (l : List ℕ) (c : Call) → call_read l ≡ Ok c → (age_off l ≡ false) × (c ≡ call_listed l)
 unfolding call_read
 read_on l c e = grind (arith, common_steps)
 
@@ -44,7 +44,7 @@ reads_well (six ∷ calls) h (suc i) q = reads_well calls (or_parts (age_off six
 
 -- Where filling stands before call i: the calls so far and those that are left make the whole.
 pub record Filling (groups : List (List ℕ)) (cs₀ cs : List Call) (i : ℕ) : Type 0 where
-  pub left : take i cs ++ map listed (drop i groups) ≡ map listed groups
+  pub left : take i cs ++ map call_listed (drop i groups) ≡ map call_listed groups
   pub unwritten : drop i cs ≡ drop i cs₀
   pub size : length cs ≡ length cs₀
 
@@ -61,8 +61,8 @@ module _ {groups : List (List ℕ)} {cs₀ cs : List Call} {i : ℕ} (f : Fillin
         size = length-set cs i c ∙ f.size;
       }
 
-  pub filled : i ≡ length groups → cs ≡ map listed groups ++ drop (length groups) cs₀
+  pub filled : i ≡ length groups → cs ≡ map call_listed groups ++ drop (length groups) cs₀
   filled e =
-      let all : take i cs ≡ map listed groups =
+      let all : take i cs ≡ map call_listed groups =
       sym (append-nil (take i cs)) ∙ (rw (drop_of_length-le groups {i = i} (omega (arith, e))) at f.left) in
       rw (← all, ← e, ← f.unwritten) (sym (take-append-drop i cs))

@@ -7,7 +7,7 @@ use Rattle.book.specs.Transfer.{transfer_of}
 use Rattle.book.specs.Scale.{lift_of, tip_of}
 use Rattle.book.specs.Setting.{setting_of}
 use Rattle.book.specs.Calls.{Call, post, lift, tip, set_rule, ask}
-use Rattle.encoding.specs.Encoding.{listed, call_in, age_off}
+use Rattle.encoding.specs.Encoding.{call_listed, call_in, age_off}
 
 abbrev numbers : ℕ → ℕ → ℕ → ℕ → ℕ → ℕ → List ℕ
 numbers kind a b c d e = kind ∷ a ∷ b ∷ c ∷ d ∷ e ∷ []
@@ -18,11 +18,11 @@ module _ (a b c d e : ℕ) (room : List ℕ) where
 
   pub kinds : (call 0 ≡ post (transfer_of a b c d e)) × (call 1 ≡ ask (Held a) room) × (call 2 ≡ ask (Spread a b c) room) × (call 3 ≡ ask Whole room)
       × (call 4 ≡ lift (lift_of a b c d)) × (call 5 ≡ tip (tip_of a b)) × (call 6 ≡ set_rule (setting_of a b))
-  unfolding listed
+  unfolding call_listed
   kinds = (refl, refl, refl, refl, refl, refl, refl)
 
   pub other_kinds : (kind : ℕ) → 7 ≤ kind → call kind ≡ ask Whole room
-  unfolding listed
+  unfolding call_listed
   other_kinds kind h =
       rw (
         ne_eqb kind 0 (λ z. omega arith),

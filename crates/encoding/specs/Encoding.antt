@@ -25,8 +25,8 @@ abbrev pub report_of : ℕ → ℕ → ℕ → ℕ → Report
 report_of kind a b c = cond (eqb kind 1) (Held a) (cond (eqb kind 2) (Spread a b c) Whole)
 
 -- the call in the first six numbers
-unfoldable pub listed : List ℕ → Call
-listed l =
+unfoldable pub call_listed : List ℕ → Call
+call_listed l =
     let kind = get_or l 0 0 in
     cond (eqb kind 0)
     (Variants.Transfer (transfer_of (get_or l 1 0) (get_or l 2 0) (get_or l 3 0) (get_or l 4 0) (get_or l 5 0)))
@@ -37,7 +37,7 @@ listed l =
 
 -- with the room that it is lent
 abbrev pub call_in : List ℕ → List ℕ → Calls.Call
-call_in l room = called (listed l) room
+call_in l room = called (call_listed l) room
 
 -- the age in the first six numbers, 0 where the call has none; whether it is above the largest, and whether one of the
 -- first n calls has such an age
@@ -54,7 +54,7 @@ ages_off (suc n) l = age_off l || ages_off n (drop call_size l)
 -- the first n calls
 unfoldable pub calls_in : ℕ → List ℕ → List Call
 calls_in zero l = []
-calls_in (suc n) l = listed l ∷ calls_in n (drop call_size l)
+calls_in (suc n) l = call_listed l ∷ calls_in n (drop call_size l)
 
 -- how many calls there are numbers for, and room for so many calls
 abbrev pub count_calls : List ℕ → ℕ → ℕ

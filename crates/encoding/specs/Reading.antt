@@ -5,7 +5,7 @@ use Rattle.refusal.specs.declared.Refusal.{Refusal}
 use Rattle.refusal.specs.declared.Refusal.TheVariants.{AgeOver}
 use Rattle.book.specs.Transfer.{most_age}
 use Rattle.journal.specs.declared.Call.{Call}
-use Rattle.encoding.specs.Encoding.{listed, age_off}
+use Rattle.encoding.specs.Encoding.{call_listed, age_off}
 
 -- an age is a number of 16 bits
 abbrev pub age_read : ℕ → Result ℕ Refusal
@@ -13,4 +13,4 @@ age_read n = cond (ltb most_age n) (Err AgeOver) (Ok n)
 
 -- the call in the first six numbers, where it has no age that is off
 unfoldable pub call_read : List ℕ → Result Call Refusal
-call_read l = cond (age_off l) (Err AgeOver) (Ok (listed l))
+call_read l = cond (age_off l) (Err AgeOver) (Ok (call_listed l))

@@ -4,7 +4,7 @@
 ghost use Rattle.std.specs.Prelude.{◌≡◌, false, cond, ◌++◌, ◌≤◌, map, drop, length};
 ghost use Rattle.std.specs.List.{list_any};
 ghost use Rattle.refusal.specs.Refusals.{outcome_number};
-ghost use Rattle.encoding.specs.Encoding.{age_off, listed, Reads};
+ghost use Rattle.encoding.specs.Encoding.{age_off, call_listed, Reads};
 ghost use Rattle.encoding.specs.Reading.{age_read, call_read};
 
 use book::{Lift, Report, Setting, Tip, Transfer};
@@ -35,7 +35,7 @@ fn read_age(age: u32) -> Result<u16, Refusal>
 }
 
 // The call that six numbers are.
-#[tactic(auto, unfolding(crate::specs::Reading::call_read, crate::specs::Encoding::listed, crate::specs::Encoding::age_off))]
+#[tactic(auto, unfolding(crate::specs::Reading::call_read, crate::specs::Encoding::call_listed, crate::specs::Encoding::age_off))]
 fn read_call(six: &[u32; CALL_SIZE]) -> Result<Call, Refusal>
     ensures { result ≡ call_read six.now }
 {
@@ -79,7 +79,7 @@ fn check_ages(groups: &[[u32; CALL_SIZE]]) -> Result<(), Refusal>
 #[tactic(auto, using(crate::proofs::Reading::reads_well))]
 fn fill(groups: &[[u32; CALL_SIZE]], calls: &mut [Call])
     requires { (length groups.now ≤ length calls.old) × (list_any age_off groups.now ≡ false) }
-    ensures { calls.new ≡ map listed groups.now ++ drop (length groups.now) calls.old }
+    ensures { calls.new ≡ map call_listed groups.now ++ drop (length groups.now) calls.old }
 {
     for (i, six) in groups.iter().enumerate() {
         calls[i] = read_call(six).unwrap(); // its age was checked before

@@ -31,7 +31,15 @@ former_checks g s d t q =
 
 abbrev pub former_meaning : ℕ → ℕ → ℕ → ℕ → Meaning
 former_meaning s d t q =
-    former_posting (record (transfer_terms (unaged s d t q)) { checks = λ g. former_checks g s d t q; birth = t })
+    former_posting (record {
+      checks = λ g. former_checks g s d t q;
+      source = s;
+      destination = d;
+      birth = t;
+      weight = λ g. q;
+      minute = t;
+      counts = 1;
+    })
 
 -- a book that adds up, where every piece lies in a vessel, and the head has no scale and no rules of vessels
 abbrev pub former_fits : ℕ → ℕ → Piece → Bool

@@ -1,6 +1,6 @@
 -- A book as it was while it had one rule, one of the four first: every pick from a vessel went by the rule of the book,
 -- and a book added up only if it had no more pieces than accepted transfers, and whatever the numbers are that are its
--- vessels' rules now. "A book whose rules were never set" is this one: `never_set` (proofs/OneRule.antt).
+-- vessels' rules now. (Whether rule 4 was used is noted of a call as it is now.) "A book whose rules were never set" is this one: `never_set` (proofs/OneRule.antt).
 -- Definitions only. Assumes nothing.
 use Rattle.std.specs.Prelude.{Bool, not, List, [], ◌∷◌, ◌++◌, ℕ, ◌+◌, leb, ltb, length}
 use Rattle.table.specs.declared.Piece.{Piece}

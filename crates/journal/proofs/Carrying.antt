@@ -10,12 +10,11 @@ use Rattle.book.specs.declared.Head.{Head}
 use Rattle.book.specs.declared.Reply.{Reply}
 use Rattle.book.specs.Head.{most_vessels, empty_head, not_opened, open_checks, opening}
 use Rattle.book.specs.Calls as Calls
-use Rattle.book.specs.Memory.{book_checks, call_on}
+use Rattle.book.specs.Memory.{book_checks, call_on, Audited}
 use Rattle.book.specs.Lists.{calls_on}
 use Rattle.book.proofs.HeadLaws.{openable, open_accepted}
 use Rattle.conservation.proofs.Lists.{demand_3}
 use Rattle.book.proofs.Memory.{refused_on, off_number}
-use Rattle.book.specs.Memory.{Audited}
 use Rattle.journal.specs.declared.Call.{Call}
 use Rattle.journal.specs.declared.Call.TheVariants.{Transfer, Lift, Tip, Setting, Report}
 use Rattle.journal.specs.Carried.{called, room_left, Makes, Carried, carried, lent, MakesAll, made, CarriesOut}

@@ -9,13 +9,12 @@ use Rattle.book.specs.declared.Report.{Report}
 use Rattle.book.specs.declared.Setting.{Setting}
 use Rattle.book.specs.declared.Transferred.{Transferred}
 use Rattle.book.specs.Calls.{Posting, enter, set_rule, ask}
-use Rattle.book.specs.Memory.{call_on}
+use Rattle.book.specs.Memory.{call_on, Audited}
 use Rattle.book.proofs.Accepted.{set_writes_nothing}
-use Rattle.book.specs.Memory.{Audited}
 use Rattle.ledger.specs.Setting.{Sets}
 use Rattle.book.proofs.Audited.{audited_known, audited_after}
 use Rattle.motions.specs.Posting.{said, PostsKnown}
-use Rattle.reports.specs.Asking.{Tells}
+use Rattle.reports.specs.Asking.{AsksKnown}
 use Rattle.reports.proofs.Asked.{asked_nothing}
 use Rattle.journal.specs.Carried.{Makes}
 
@@ -58,7 +57,7 @@ set {h = h} {t = t} {s = s} w p =
 
 -- a report is asked
 pub asked : {h : Head} {t r r' : List ℕ} {z : Result (Unit {0}) Refusal} {q : Report} → Audited h t
-    → Tells h q t r r' z → Makes (ask q r) h h t t r r' z
+    → AsksKnown h q t r r' z → Makes (ask q r) h h t t r r' z
 asked {h = h} {t = t} {r = r} {q = q} w p =
     let same = asked_nothing h t q r in
     record { number = p.number; head = sym same.0; table = sym same.1; room = p.room; audited = w }

@@ -9,10 +9,9 @@ use Rattle.book.specs.declared.Reply.{Reply}
 use Rattle.book.specs.Head.{not_opened, open_checks, opening}
 use Rattle.book.specs.Calls.{enter, post, lift, tip, set_rule, ask}
 use Rattle.book.specs.Calls as Calls
-use Rattle.book.specs.Memory.{Outcome, call_on}
+use Rattle.book.specs.Memory.{Outcome, call_on, Audited}
 use Rattle.book.specs.Lists.{calls_on}
 use Rattle.conservation.specs.Conservation.{Demand3}
-use Rattle.book.specs.Memory.{Audited}
 use Rattle.journal.specs.declared.Call.{Call}
 use Rattle.journal.specs.declared.Call.TheVariants.{Transfer, Lift, Tip, Setting, Report}
 

@@ -58,16 +58,6 @@ fn make(
     }
 }
 
-// The number of an outcome: 0, or that of the refusal.
-fn number_of(made: Result<(), Refusal>) -> u32
-    ensures { result ≡ outcome_number made }
-{
-    match made {
-        Ok(()) => 0,
-        Err(why) => u32::from(why),
-    }
-}
-
 // The calls in turn on a book that adds up, in memory that is made once; the number of each goes to `answers`.
 fn make_known(
     fresh: Head,
@@ -83,7 +73,7 @@ fn make_known(
     let mut head = fresh;
     let mut work = TableKeeping::new();
     for (i, call) in calls.iter().enumerate() {
-        answers[i] = number_of(make(&mut head, table, &mut work, *call, room));
+        answers[i] = refusal::number(make(&mut head, table, &mut work, *call, room));
     }
     head
 }

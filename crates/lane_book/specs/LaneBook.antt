@@ -1,5 +1,5 @@
--- A book in lanes beside a table that is lent, and what it promises of a transfer. The table of the book is what the
--- lent one would be, were the pieces written into it.
+-- A book in lanes beside a table that is lent, and what it promises of a transfer. The table of the book is the lent
+-- one with the pieces of the lanes written into it.
 -- Definitions only. Assumes nothing.
 use Rattle.std.specs.Prelude.{◌≡◌, List, ℕ, ◌≤◌, length, Result}
 use Rattle.refusal.specs.declared.Refusal.{Refusal}

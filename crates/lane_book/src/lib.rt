@@ -36,7 +36,7 @@ impl LaneBook {
         }
     }
 
-    // A transfer, on head and table as it would be, were the pieces written into it. The table is only looked at.
+    // A transfer on the book. The pieces go from lane to lane; the lent table is not written.
     pub fn post(&mut self, table: &mut [u32], x: Transfer) -> Result<Applied, Refusal>
         requires { Stands self.old table.old }
         ensures { Enters x self.old self.new table.old table.new result }

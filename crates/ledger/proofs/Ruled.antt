@@ -11,11 +11,10 @@ use Rattle.book.specs.declared.Setting.{Setting}
 use Rattle.book.specs.Head.{most_vessels}
 use Rattle.book.specs.Setting.{setting_checks, ruled}
 use Rattle.book.specs.Calls.{set_rule}
-use Rattle.book.specs.Memory.{book_checks, number_of}
+use Rattle.book.specs.Memory.{book_checks, number_of, Audited}
 use Rattle.book.proofs.Checks.{setting_fit}
 use Rattle.book.proofs.Memory.{call_number, refused_on, off_number, on_number}
 use Rattle.book.proofs.Accepted.{ruled_is}
-use Rattle.book.specs.Memory.{Audited}
 use Rattle.ledger.specs.Setting.{Sets}
 use Rattle.book.proofs.Audited.{passed}
 

@@ -1,12 +1,11 @@
 // The rules of a book's vessels: the one by which a holder's pieces are picked, and another one set for later picks.
 ghost use Rattle.std.specs.Prelude.{◌≡◌, ◌<◌, ◌≤◌, List, ℕ};
-ghost use Rattle.refusal.specs.Numbers.{first};
+ghost use Rattle.refusal.specs.Numbers.{first, if_zero};
 ghost use Rattle.refusal.specs.Refusals.{outcome_number};
 ghost use Rattle.book.specs.Head.{most_vessels, rule_at};
 ghost use Rattle.book.specs.Setting.{setting_checks, ruled};
 ghost use Rattle.book.specs.Calls.{set_rule};
-ghost use Rattle.book.specs.Memory.{call_on, replied};
-ghost use Rattle.book.specs.Memory.{Audited};
+ghost use Rattle.book.specs.Memory.{call_on, replied, Audited};
 ghost use Rattle.ledger.specs.Setting.{Sets};
 
 use super::audit;
@@ -54,7 +53,9 @@ fn check_setting(vessels: u32, s: Setting) -> Result<(), Refusal>
 #[tactic(auto, using(crate::proofs::Ruled::set_inside))]
 pub fn set_known(head: &mut Head, s: Setting) -> Result<(), Refusal>
     requires { head.old.vessels ≤ most_vessels }
-    ensures { (t : List ℕ) → Audited head.old t → Sets s head.old head.new t result }
+    ensures number { outcome_number result ≡ first (setting_checks head.old.vessels s) }
+    ensures head { head.new ≡ if_zero (first (setting_checks head.old.vessels s)) (ruled head.old s) head.old }
+    ensures sets { (t : List ℕ) → Audited head.old t → Sets s head.old head.new t result }
 {
     check_setting(head.vessels, s)?;
     give_rule(head, s);
@@ -74,9 +75,6 @@ pub fn set_rule(head: Head, table: &[u32], s: Setting) -> Reply
     ensures { result ≡ replied (call_on head table.now (set_rule s)) }
 {
     let mut next = head;
-    let number = match set_checked(&mut next, table, s) {
-        Ok(()) => 0,
-        Err(why) => u32::from(why),
-    };
+    let number = refusal::number(set_checked(&mut next, table, s));
     Reply { number, head: next }
 }

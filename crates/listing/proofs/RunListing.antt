@@ -10,7 +10,7 @@ use Rattle.book.proofs.Known.{AddsUp, adds_up_told}
 use Rattle.run.specs.declared.Ran.{Ran}
 use Rattle.run.specs.Run.{Running, Gives, run_number, running}
 use Rattle.run.proofs.InWords.{refused_run}
-use Rattle.runs.proofs.RunTheorem.{run_theorem}
+use Rattle.run.proofs.Ends.{run_adds}
 use Rattle.listing.specs.Listing.{Listed, listing_text, book_text, refused_line, listing_of, sheet_listing, room_for, listing_room}
 
 few_places : (t : List ℕ) → places_of t ≤ most_places
@@ -28,7 +28,7 @@ module _ (s t : List ℕ) where
     r = running s t
 
     adds : AddsUp r.answer.head r.table
-    adds = let u = run_theorem s t e in adds_up_told _ _ (rw (u.folded.head_is, u.folded.table_is) u.demand.book_adds_up)
+    adds = adds_up_told _ _ (run_adds s t e)
 
   pub fitting : Fitting (running s t)
   fitting = go (run_number s t) refl

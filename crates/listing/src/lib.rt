@@ -3,8 +3,7 @@
 
 ghost use Rattle.std.specs.Prelude.{◌*◌, ◌≤◌, length};
 ghost use Rattle.text.specs.Writing.{Room, Writes};
-ghost use Rattle.listing.specs.Listing.{first_line, piece_line, piece_lines, last_line, listing_of};
-ghost use Rattle.listing.specs.Listing.{Listed, ListsSheet, first_size, piece_size, last_size, room_for, listing_room};
+ghost use Rattle.listing.specs.Listing.{first_line, piece_line, piece_lines, last_line, listing_of, Listed, ListsSheet, first_size, piece_size, last_size, room_for, listing_room};
 
 use book::Head;
 use run::Ran;

@@ -8,8 +8,7 @@ use Rattle.std.proofs.lemmas.Bool.Decides.{nat_tests}
 use Rattle.table.specs.Table.{places_of}
 use Rattle.table.proofs.Pieces.{all_map}
 use Rattle.taking.specs.declared.Applied.{Applied}
-use Rattle.taking.specs.Applied.{full, accepted, applied}
-use Rattle.taking.specs.Applied.{table_left, Moves}
+use Rattle.taking.specs.Applied.{full, accepted, applied, table_left, Moves}
 use Rattle.refusal.specs.declared.Refusal.{Refusal}
 use Rattle.refusal.specs.declared.Refusal.TheVariants.{TableFull}
 use Rattle.refusal.specs.Numbers.{first, if_zero}
@@ -23,12 +22,11 @@ use Rattle.book.specs.declared.Transferred.{Transferred}
 use Rattle.book.specs.Head.{Book, head_of, book_of}
 use Rattle.book.specs.Motion.{Standing, of_book, of_head, Terms, motion, takes, pieces_after, book_after}
 use Rattle.book.specs.Calls.{Posting, terms, Call, enter, tip, motion_on, meaning}
-use Rattle.book.specs.Memory.{book_checks, number_of}
+use Rattle.book.specs.Memory.{book_checks, number_of, Audited}
 use Rattle.book.proofs.BalanceLaws.{Holders}
 use Rattle.book.proofs.Sound.{number, own, proper, after_length, whole, posted_own, motion_light, SizedBook, keeps}
 use Rattle.book.proofs.Memory.{number_same, no_place, refused_on, accepted_on, off_number}
 use Rattle.book.proofs.Known.{Known, standing_same}
-use Rattle.book.specs.Memory.{Audited}
 use Rattle.motions.specs.Carrying.{Carriable, next_head, Countable}
 use Rattle.motions.specs.Posting.{refused_with, said, Posts, Tips, PostsKnown}
 use Rattle.book.proofs.Audited.{audited_known, audited_after}

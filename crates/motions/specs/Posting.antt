@@ -12,9 +12,8 @@ use Rattle.book.specs.declared.Reply.{Reply}
 use Rattle.book.specs.declared.Motion.{Motion}
 use Rattle.book.specs.Motion.{of_head, motion}
 use Rattle.book.specs.Calls.{Posting, terms, Call, enter, tip}
-use Rattle.book.specs.Memory.{call_on}
+use Rattle.book.specs.Memory.{call_on, Audited}
 use Rattle.book.specs.Memory as Memory
-use Rattle.book.specs.Memory.{Audited}
 
 -- a refusal: the head as given, and all other numbers 0
 abbrev pub refused_with : Head → ℕ → Transferred

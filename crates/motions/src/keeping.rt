@@ -10,7 +10,7 @@ use taking::Applied;
 
 // A keeping of pieces, beside a table that is lent.
 pub trait Keeping {
-    // The table as it is, or as it would be, were the pieces written into it.
+    // The lent table with the pieces written into it.
     ghost written: { Self → List ℕ → List ℕ };
 
     // It keeps the pieces of a book with this head, and the lent table has room for them.

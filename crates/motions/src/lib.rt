@@ -10,7 +10,7 @@ ghost use Rattle.book.specs.Motion.{of_head, motion};
 ghost use Rattle.book.specs.Calls.{Posting, terms};
 ghost use Rattle.book.specs.Memory.{Audited};
 ghost use Rattle.motions.specs.Carrying.{Carriable};
-ghost use Rattle.motions.specs.Posting.{PostsKnown};
+ghost use Rattle.motions.specs.Posting.{Passing, PostsKnown};
 
 use book::{Head, Motion};
 use keeping::Keeping;
@@ -50,8 +50,9 @@ pub fn post_known<K: Keeping, P: Posting>(
 ) -> Result<Applied, Refusal>
     requires known { Audited head.old (K.written keeping.old table.old) }
     requires kept { K.keeps keeping.old head.old table.old }
-    requires carried { first ((terms (P.asked p)).checks (of_head head.old)) ≡ 0 → K.carries head.old (motion (terms (P.asked p)) (of_head head.old)) }
-    ensures posts { PostsKnown (P.asked p) head.old head.new (K.written keeping.old table.old) (K.written keeping.new table.new) result }
+    requires carried { Passing (P.asked p) head.old (K.carries head.old) }
+    ensures posts { PostsKnown (P.asked p) head.old head.new
+        (K.written keeping.old table.old) (K.written keeping.new table.new) result }
     ensures kept { K.keeps keeping.new head.new table.new }
     ensures leaves { K.leaves table.old table.new }
 {

@@ -13,7 +13,7 @@ use Rattle.taking.specs.declared.Move.{Move}
 use Rattle.taking.specs.Taken.{Taken}
 use Rattle.taking.specs.Taking.{handed, singly}
 use Rattle.picking.specs.Plan.{at_key, in_order, count_of, plan_from, splits, lacking, taken_by, planned}
-use Rattle.taking.specs.Applied.{table_left, Moves}
+use Rattle.taking.specs.Applied.{table_left, Moves, full, accepted, applied}
 use Rattle.moving.specs.Ready.{Ready}
 use Rattle.picking.specs.Ordering.{Ordered}
 use Rattle.moving.specs.Parts.{Room, Applicable, Applies}
@@ -22,7 +22,6 @@ use Rattle.picking.proofs.Planned.{singly_planned}
 use Rattle.taking.proofs.Taking.{singly_law}
 use Rattle.taking.proofs.Handed.{handed_length}
 use Rattle.taking.specs.declared.Applied.{Applied}
-use Rattle.taking.specs.Applied.{full, accepted, applied}
 
 -- the plan takes no more keys than there are
 plan_most : (ks : List ℕ) (c want : ℕ) (ps : List Piece) → (plan_from c ks want ps).whole ≤ c + length ks

@@ -17,9 +17,8 @@ use Rattle.taking.specs.Taking.{handed, singly, taken}
 use Rattle.taking.proofs.Stirring.{counts, taken_singly, taken_stirred, taken_out}
 use Rattle.taking.specs.Stirring.{stirred_rule, weights_in, gifts, stirred}
 use Rattle.taking.specs.declared.Applied.{Applied}
-use Rattle.taking.specs.Applied.{full, applied}
+use Rattle.taking.specs.Applied.{full, applied, table_left, Moves}
 use Rattle.moving.specs.declared.stirring.Parted.{Parted}
-use Rattle.taking.specs.Applied.{table_left, Moves}
 use Rattle.moving.specs.Ready.{lifted_places, Ready}
 use Rattle.moving.specs.Stirring.{Stirrable, SharesOut, Affordable, Partible, Parts}
 

@@ -13,7 +13,7 @@ use Rattle.book.specs.Reports.{report_row, asked_checks, onto}
 use Rattle.book.specs.Memory.{Audited}
 use Rattle.book.proofs.Audited.{passed}
 use Rattle.reports.specs.Scatter.{Reportable}
-use Rattle.reports.specs.Asking.{Judged, Asks, Tells}
+use Rattle.reports.specs.Asking.{Judged, Asks, AsksKnown}
 use Rattle.reports.proofs.Asked.{asked_on, asked_refused, asked_there, asked_reportable, asked_accepted}
 
 module _ (h : Head) (t : List ℕ) (q : Report) (room : List ℕ) (w : Audited h t) where
@@ -21,11 +21,11 @@ module _ (h : Head) (t : List ℕ) (q : Report) (room : List ℕ) (w : Audited h
   judged = asked_on h t q room (passed h t w, w.sized)
 
   told : (n : ℕ) (r : List ℕ) → Asks h q t room r (record { number = n; head = h }) → (z : Result (Unit {0}) Refusal)
-      → Refusals.outcome_number z ≡ n → Tells h q t room r z
+      → Refusals.outcome_number z ≡ n → AsksKnown h q t room r z
   told n r a z e = record { number = e ∙ ap (λ (x : Reply). x.number) a.answer; room = a.room }
 
   pub known_refused : (why : Refusal) → Refusals.number_of why ≡ first (asked_checks h.vessels (length room) q)
-      → (z : Result (Unit {0}) Refusal) → IsErrAnd z (λ (other : Refusal). other ≡ why) → Tells h q t room room z
+      → (z : Result (Unit {0}) Refusal) → IsErrAnd z (λ (other : Refusal). other ≡ why) → AsksKnown h q t room room z
   known_refused why e z ez =
       told (Refusals.number_of why) room (asked_refused h t q room why (judged _ e) _ refl) z (grind arith)
 
@@ -37,5 +37,5 @@ module _ (h : Head) (t : List ℕ) (q : Report) (room : List ℕ) (w : Audited h
     known_reportable = asked_reportable h t q room 0 (judged 0 e) refl
 
     pub known_done : (r : List ℕ) → r ≡ onto (report_row h.vessels (pieces_of h.pieces t) q) room
-        → Tells h q t room r (Ok tt)
+        → AsksKnown h q t room r (Ok tt)
     known_done r er = told 0 r (asked_accepted h t q room 0 (judged 0 e) refl _ refl r er) (Ok tt) refl

@@ -21,6 +21,6 @@ pub record Asks (h : Head) (q : Report) (t r r' : List ℕ) (z : Reply) : Type 0
   pub room : r' ≡ (call_on h t (ask q r)).room
 
 -- The same, where head and table are the caller's: its number.
-pub record Tells (h : Head) (q : Report) (t r r' : List ℕ) (z : Result (Unit {0}) Refusal) : Type 0 where
+pub record AsksKnown (h : Head) (q : Report) (t r r' : List ℕ) (z : Result (Unit {0}) Refusal) : Type 0 where
   pub number : outcome_number z ≡ (call_on h t (ask q r)).number
   pub room : r' ≡ (call_on h t (ask q r)).room

@@ -1,6 +1,6 @@
 // A report on a book that adds up.
 ghost use Rattle.book.specs.Memory.{Audited};
-ghost use Rattle.reports.specs.Asking.{Tells};
+ghost use Rattle.reports.specs.Asking.{AsksKnown};
 
 use super::{check_asked, filling};
 use book::{Head, Report};
@@ -16,7 +16,7 @@ pub fn report_known(
     room: &mut [u32],
 ) -> Result<(), Refusal>
     requires { Audited head.now table.now }
-    ensures { Tells head.now asked table.now room.old room.new result }
+    ensures { AsksKnown head.now asked table.now room.old room.new result }
 {
     check_asked(head.vessels, asked, room.len())?;
     let pieces = Pieces::of(table, head.pieces as usize);

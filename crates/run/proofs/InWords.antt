@@ -42,7 +42,7 @@ zero_head = record {
 abbrev pub none_made : ℕ → List ℕ → Running
 none_made number t = record { answer = record { number = number; index = 0; even = 0; head = zero_head }; table = t }
 
-pub record Begins (s t : List ℕ) (r : Running) : Type 0 where
+pub record RunBegins (s t : List ℕ) (r : Running) : Type 0 where
   pub sheet_first : (read_number s ≡ 0 → ⊥) → r ≡ none_made (read_number s) t
   pub then_table : read_number s ≡ 0 → length t < 4 → r ≡ none_made 1 t
   pub else_made : read_number s ≡ 0 → 4 ≤ length t
@@ -58,7 +58,7 @@ module _ (s t : List ℕ) where
   unfolding run_number
   own_number some = sym (not_zero (read_number s) _ (read_number s) some)
 
-  pub run_begins : Begins s t (running s t)
+  pub run_begins : RunBegins s t (running s t)
   unfolding running
   run_begins = record {
     sheet_first = λ some. refused (read_number s) (own_number some) some;

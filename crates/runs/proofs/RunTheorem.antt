@@ -17,7 +17,7 @@ use Rattle.former.specs.OneRule.{one_rule_calls}
 use Rattle.book.proofs.Memory.{refused_memory, refused_even}
 use Rattle.conservation.proofs.Lists.{demand_3}
 use Rattle.conservation.proofs.Unstirred.{first_rules, answered_all}
-use Rattle.wording.proofs.Scale.{post_scale}
+use Rattle.book.proofs.Accepted.{post_scale}
 use Rattle.former.proofs.OneRule.{never_set, opened_unset}
 use Rattle.sheet.specs.Sheet.{rule_of, vessels_of, movements_of, read_number}
 use Rattle.run.specs.Run.{transfers_of, Running, ended, go_on, run_from, run_number, running}

@@ -1,5 +1,5 @@
 -- THE SCALE. While nothing is on it, every tip is refused with 23, whatever else is amiss with it (`bare_refuses`;
--- Load.antt has what is true while something is). A transfer leaves its weight as it was (`post_scale`).
+-- Load.antt has what is true while something is).
 -- Assumes nothing.
 use Rattle.std.proofs.Common.{◌≡◌, refl, List, ℕ, arith, ◌∙◌}
 use Rattle.std.proofs.lemmas.Bool.Decides.{nat_tests}
@@ -24,9 +24,3 @@ unfolding tip_checks
 bare_refuses h t e u y =
     let a = adds_up_told h t (book_passed h t e).1 in
     on_number h t (tip y) _ refl e ∙ rw (← a.scale_is, u)
-
--- a transfer leaves the scale as it was
-pub post_scale : (h : Head) (t : List ℕ) (x : Transfer) → (call_on h t (post x)).head.scale ≡ h.scale
-unfolding call_on
-post_scale h t x =
-    grind (arith, nat_tests, held_after (book_of h t) (motion_of x) the_scale, post_fit h t x, accepted_book h t (post x))

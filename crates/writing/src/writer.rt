@@ -6,8 +6,7 @@ ghost use Rattle.refusal.specs.Refusals.{outcome_number};
 ghost use Rattle.book.specs.Head.{most_vessels};
 ghost use Rattle.fields.specs.Movements.{entry_size, given_in, entries_given, entry_bytes, entries_bytes};
 ghost use Rattle.fields.specs.Layout.{name_size, rule_at, names_at, sheet_size, Within};
-ghost use Rattle.writing.specs.Writing.{count_given, count_bytes, layout_bytes, header_bytes, sheet_of};
-ghost use Rattle.writing.specs.Writing.{given_off, count_checks, content_checks, write_number};
+ghost use Rattle.writing.specs.Writing.{count_given, count_bytes, layout_bytes, header_bytes, sheet_of, given_off, count_checks, content_checks, write_number};
 
 use fields::bytes::{put_bytes, put_number};
 use fields::entries::{Entry, given};

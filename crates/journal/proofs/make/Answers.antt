@@ -16,7 +16,7 @@ pub set_known-requires : goal.set_known-requires
 set_known-requires c = vessels_fit _ _ c.requires
 
 pub returns-in-Setting : goal.returns-in-Setting
-returns-in-Setting c = rw c.in-Setting.is (set c.requires (c.set_known.ensures _ c.requires))
+returns-in-Setting c = rw c.in-Setting.is (set c.requires (c.set_known.ensures.sets _ c.requires))
 
 pub returns-in-Report : goal.returns-in-Report
 returns-in-Report c = rw c.in-Report.is (asked c.requires c.report_known.ensures)

@@ -11,4 +11,4 @@ pub set_known-requires : goal.set_known-requires
 set_known-requires c = vessels_fit _ _ (audited _ _ _ c.in_ok-check_book.ensures refl)
 
 pub returns : goal.returns
-returns c = c.set_known.ensures _ (audited _ _ _ c.in_ok-check_book.ensures refl)
+returns c = c.set_known.ensures.sets _ (audited _ _ _ c.in_ok-check_book.ensures refl)

@@ -2,8 +2,8 @@
 use Rattle.ledger.proofs.Ruled.{set_refused, set_done}
 use Rattle.ledger.proofs.rules.set_known.Goals as goal
 
-pub returns-in_err-check_setting : goal.returns-in_err-check_setting
-returns-in_err-check_setting c = λ t w. set_refused _ t _ w _ c.in_err-check_setting.ensures _ c.from_residual.ensures.1
+pub returns-in_err-check_setting-clause-sets : goal.returns-in_err-check_setting-clause-sets
+returns-in_err-check_setting-clause-sets c = λ t w. set_refused _ t _ w _ c.in_err-check_setting.ensures _ c.from_residual.ensures.1
 
-pub returns : goal.returns
-returns c = λ t w. set_done _ t _ w c.in_ok-check_setting.ensures _ c.give_rule.ensures
+pub returns-clause-sets : goal.returns-clause-sets
+returns-clause-sets c = λ t w. set_done _ t _ w c.in_ok-check_setting.ensures _ c.give_rule.ensures
