@@ -11,8 +11,9 @@
  * A pointer is followed by the count of elements that it lends. With the count 0 it may be null.
  * Alignment: a pointer to uint32_t (table, report, numbers) is a multiple of 4; a pointer to uint8_t
  * (sheet, names, out) may be any. What is lent holds values, also where it is only written: clear
- * fresh memory first. What is lent for writing may not overlap anything else that is lent to the
- * call, and nobody else writes to what is lent until the call returns.
+ * fresh memory first. What is lent is one object, of at most PTRDIFF_MAX bytes. What is lent for
+ * writing may not overlap anything else that is lent to the call. Until the call returns, nobody
+ * else reads what is lent for writing, and nobody else writes to what is lent.
  *
  * Link with crates/lumchaki/out/liblumchaki.a. A transfer, lift, tip or run needs less than 192 KiB of
  * stack. */
