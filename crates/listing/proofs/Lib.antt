@@ -4,3 +4,4 @@ pub mod RunListing
 pub mod Published
 pub mod NoMovement
 pub mod Overlong
+pub mod ListLaws

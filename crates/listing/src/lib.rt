@@ -1,12 +1,19 @@
-// The listing of a run as text, put into bytes that the caller lends.
+// The listing of a run as text: put into bytes that the caller lends, or, of a sheet that is read, written to a stream.
 #![tactic(auto)]
 
-ghost use Rattle.std.specs.Prelude.{◌*◌, ◌≤◌, length};
+ghost use Rattle.std.specs.Prelude.{◌*◌, ◌≤◌, length, replicate, OnOk, IfSome};
+ghost use Rattle.std.specs.Io.KnownBytes.{Appends};
+ghost use Rattle.table.specs.Table.{most_places};
 ghost use Rattle.text.specs.Writing.{Room, Writes};
-ghost use Rattle.listing.specs.Listing.{first_line, piece_line, piece_lines, last_line, listing_of, Listed, ListsSheet, first_size, piece_size, last_size, room_for, listing_room};
+ghost use Rattle.listing.specs.Listing.{first_line, piece_line, piece_lines, last_line, listing_of, Listed, ListsSheet, first_size, piece_size, last_size, room_for, listing_room, sheet_listing};
 
 use book::Head;
+use fields::layout::{ENTRY_SIZE, HEADER_SIZE, MOST_MOVEMENTS, NAME_SIZE};
+use input::read_full;
+use ledger::opening::VESSELS;
 use run::Ran;
+use std::io;
+use std::io::{Read, Write};
 use table::Piece;
 use table::reading::Pieces;
 use text::Writer;
@@ -20,6 +27,15 @@ const LAST: usize = 33;
 
 // Bytes that are room for every listing of a table.
 pub const ROOM: usize = FIRST + LAST + PIECE * table::PLACES;
+
+// The longest sheet.
+const LONGEST: usize = HEADER_SIZE + NAME_SIZE * (VESSELS as usize) + ENTRY_SIZE * MOST_MOVEMENTS;
+
+// One byte more, so that an overlong input is still told from a good one.
+const SHEET: usize = LONGEST + 1;
+
+// The numbers of all places.
+const TABLE: usize = 4 * table::PLACES;
 
 // The first line.
 fn put_first(out: &mut Writer, head: Head, even: u32)
@@ -103,4 +119,17 @@ pub fn list_sheet(sheet: &[u8], table: &mut [u32], out: &mut [u8]) -> usize
 {
     let ran = run::run(sheet, table);
     put_listing(ran, table, out)
+}
+
+// Reads a sheet from the input, runs it on a table of 4,096 places, and writes its listing to the output.
+pub fn list<R: Read, W: Write>(input: &mut R, output: &mut W) -> io::Result<()>
+    ensures { OnOk result (IfSome (R.remaining input.old) (λ bytes. Appends (W.contents output.old)
+        (W.contents output.new) (sheet_listing bytes (replicate (4 * most_places) 0)))) }
+{
+    let mut sheet = [0u8; SHEET];
+    let mut table = [0u32; TABLE];
+    let mut text = [0u8; ROOM];
+    let got = read_full(input, &mut sheet)?;
+    let put = list_sheet(&sheet[..got], &mut table, &mut text);
+    output.write_all(&text[..put])
 }

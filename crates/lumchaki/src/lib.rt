@@ -19,8 +19,7 @@ use sheet::answer::{Movement, Reading};
 
 mod rules; // rules.rt: the rule of a vessel
 mod scale; // scale.rt: lift and tip
-#[cfg(test)]
-mod tests; // tests.rt: a contract spelled out again
+mod spelled; // spelled.rt: a contract spelled out again
 
 // Rule and count of vessels are two numbers in C, and stay two down to `ledger::opening`.
 #[unsafe(no_mangle)]

@@ -1,8 +1,8 @@
 -- `list` meets its contract: what is read of the input has its listing, and that is written.
 use Rattle.std.proofs.Common.{◌<◌, subst, sym, lit<}
 use Rattle.sheet.proofs.Overlong.{longest}
-use Rattle.list.proofs.ListLaws.{listed}
-use Rattle.list.proofs.list.Goals as goal
+use Rattle.listing.proofs.ListLaws.{listed}
+use Rattle.listing.proofs.list.Goals as goal
 
 pub returns : goal.returns
 returns g c =

@@ -1,0 +1,5 @@
+-- Handed on: the promise is that of the call behind.
+use Rattle.lumchaki.proofs.lumchaki_open.Goals as goal
+
+pub returns : goal.returns
+returns c = c.open.ensures
