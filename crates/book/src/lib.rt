@@ -76,7 +76,7 @@ pub struct Setting {
 }
 
 // What transfer, lift and tip do to a book: the move of pieces, the minute, and how often it counts as a transfer.
-#[derive(Clone, Copy, Debug, PartialEq, Eq)]
+#[derive(Clone, Copy)]
 pub struct Motion {
     pub moves: Move,
     pub minute: u32,

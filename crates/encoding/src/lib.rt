@@ -65,7 +65,6 @@ fn read_call(six: &[u32; CALL_SIZE]) -> Result<Call, Refusal>
 }
 
 // Whether each age of the calls is a number of 16 bits.
-#[tactic(auto, using(crate::proofs::Reading::scan_turn, crate::proofs::Reading::scan_found))]
 fn check_ages(groups: &[[u32; CALL_SIZE]]) -> Result<(), Refusal>
     ensures { outcome_number result ≡ cond (list_any age_off groups.now) 18 0 }
 {

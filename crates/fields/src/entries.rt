@@ -10,7 +10,7 @@ use crate::layout::{ENTRY_SIZE, GIVEN_SIZE};
 use refusal::Refusal;
 
 // A movement as the sheet has it. The age that the writer is given may be too large for its two bytes.
-#[derive(Clone, Copy, Debug, PartialEq, Eq)]
+#[derive(Clone, Copy)]
 pub struct Entry {
     pub source: u32,
     pub destination: u32,
@@ -67,7 +67,6 @@ fn check_given(e: Entry, vessels: u32) -> Result<(), Refusal>
 }
 
 // The first check that a movement of a sheet fails, of all.
-#[tactic(auto, using(crate::proofs::EntryLaws::named_entry, crate::proofs::EntryLaws::check_turn, crate::proofs::EntryLaws::check_stop, crate::proofs::EntryLaws::check_end, refusal::proofs::Refusals::outcomes))]
 pub fn check_entries(entries: &[[u8; ENTRY_SIZE]], vessels: u32) -> Result<(), Refusal>
     ensures { outcome_number result ≡ first (entries_checks (entry_checks vessels) (map entry_in entries.now)) }
 {
@@ -78,7 +77,6 @@ pub fn check_entries(entries: &[[u8; ENTRY_SIZE]], vessels: u32) -> Result<(), R
 }
 
 // The first check that a movement given fails, of all.
-#[tactic(auto, using(crate::proofs::EntryLaws::named_given, crate::proofs::EntryLaws::check_turn, crate::proofs::EntryLaws::check_stop, crate::proofs::EntryLaws::check_end, refusal::proofs::Refusals::outcomes))]
 pub fn check_all_given(all: &[[u32; GIVEN_SIZE]], vessels: u32) -> Result<(), Refusal>
     ensures { outcome_number result ≡ first (entries_checks (given_checks vessels) (map given_in all.now)) }
 {

@@ -48,7 +48,6 @@ pub fn sheet_size(vessels: u32, movements: u32) -> usize
 }
 
 // Whether a sheet cannot have that many movements. It can have none.
-#[tactic(auto, unfolding(crate::specs::Layout::movements_off))]
 pub fn movements_off(movements: usize) -> bool
     ensures { result ≡ movements_off movements }
 {

@@ -29,7 +29,7 @@ fn name_off(name: &[u8; NAME_SIZE], behind: &[[u8; NAME_SIZE]]) -> bool
 }
 
 // Whether a name is ill-formed or used twice.
-#[tactic(auto, using(crate::proofs::NameLaws::names_more, crate::proofs::NameLaws::names_none, std::proofs::lemmas::List::take_rest))]
+#[tactic(auto, using(crate::proofs::NameLaws::names_none))]
 pub fn names_off(names: &[[u8; NAME_SIZE]]) -> bool
     ensures { result ≡ names_off names.now }
 {

@@ -45,7 +45,6 @@ impl LaneBook {
     }
 
     // The pieces are written into the table; the answer is the head.
-    #[tactic(auto, unfolding(crate::specs::LaneBook::written))]
     pub fn close(&mut self, table: &mut [u32]) -> Head
         requires { Stands self.old table.old }
         ensures { (table.new ≡ written self.old table.old) × (result ≡ self.old.head) × (self.new ≡ self.old) }

@@ -9,7 +9,6 @@ use super::Store;
 use table::PLACES;
 
 // Of the first so many notes of a log the last ones are listed: from the newest on, each slot that was not seen before is put in front of those found, until all are.
-#[tactic(auto, using(crate::proofs::Listing::listing_end, crate::proofs::Listing::slot_of, crate::proofs::Listing::some_free, crate::proofs::Listing::free_fits))]
 fn list_last(log: &[u16], noted: usize, count: usize, last: &mut [u16])
     requires { Listable log.now noted count last.old }
     ensures { Lists (take noted log.now) count last.new }

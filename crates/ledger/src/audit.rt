@@ -15,7 +15,7 @@ use table::reading::Pieces;
 use taking::STIRRED;
 
 // What the pieces of a book have to fit: its count of vessels, and its last minute.
-#[derive(Clone, Copy, Debug, PartialEq, Eq)]
+#[derive(Clone, Copy)]
 struct Limits {
     vessels: u32,
     last: u32,
@@ -38,7 +38,6 @@ impl Limits {
     }
 
     // Whether the pieces draw the balances of all holders down to nothing.
-    #[tactic(auto, unfolding(crate::specs::Audit::drained))]
     fn drained(self, pieces: &Pieces, balances: [u32; HOLDERS]) -> bool
         ensures { result ≡ drained self.vessels self.last balances pieces.now }
     {
@@ -54,7 +53,6 @@ impl Limits {
 }
 
 // Whether nothing is left of any balance: a function of its own, since its one law is about it alone.
-#[tactic(auto, unfolding(book::specs::Head::all_zero))]
 fn all_zero(rest: &[u32]) -> bool
     ensures { result ≡ all_zero rest.now }
 {
@@ -85,7 +83,6 @@ fn draw_all(head: Head, pieces: &Pieces) -> bool
 }
 
 // Whether the pieces fit, and the balances of the head, the scale's among them, are their sums.
-#[tactic(auto, using(crate::proofs::Drained::weight_beyond))]
 fn is_balanced(head: Head, pieces: &Pieces) -> bool
     requires { head.vessels ≤ most_vessels }
     ensures { result ≡ all_of (balanced head pieces.now) }

@@ -26,7 +26,6 @@ pub fn rule_at(head: &Head, holder: u32) -> u32
 }
 
 // The vessel's rule set in the head.
-#[tactic(auto, unfolding(book::specs::Setting::ruled))]
 fn give_rule(head: &mut Head, s: Setting)
     requires { s.vessel < most_vessels }
     ensures { head.new ≡ ruled head.old s }

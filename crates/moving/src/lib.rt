@@ -27,7 +27,7 @@ const LIFTED_PLACES: usize = table::PLACES + 1;
 pub const LIFTED: usize = 4 * LIFTED_PLACES;
 
 // What a source has: the rule by which it gives, and its balance.
-#[derive(Clone, Copy, Debug, PartialEq, Eq)]
+#[derive(Clone, Copy)]
 pub struct Holding {
     pub rule: u32,
     pub balance: u32,

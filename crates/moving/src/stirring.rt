@@ -13,7 +13,7 @@ use table::{closing, piece_at, put_piece};
 use taking::{Applied, Move};
 
 // How many pieces stay in the table, and how many are lifted. A piece that is split is counted in both.
-#[derive(Clone, Copy, Debug, PartialEq, Eq)]
+#[derive(Clone, Copy)]
 pub struct Parted {
     pub stay: usize,
     pub go: usize,

@@ -6,7 +6,7 @@ use crate::selection::Order;
 use table::reading::Pieces;
 
 // How many pieces go whole, and the weight still wanted then.
-#[derive(Clone, Copy, Debug, PartialEq, Eq)]
+#[derive(Clone, Copy)]
 pub struct Plan {
     pub whole: usize,
     pub left: u32,

@@ -138,7 +138,7 @@ fn fill_whole(pieces: &Pieces, vessels: u32, report: &mut [u32])
 
 // The same at the start of the room, row by row: each row, by its place in the room, is lent to the held report of its
 // vessel.
-#[tactic(auto, using(crate::proofs::Filled::rows_none, crate::proofs::Filled::rows_next))]
+#[tactic(auto, using(crate::proofs::Filled::rows_none))]
 pub fn fill_rows(pieces: &Pieces, vessels: u32, report: &mut [u32])
     requires { (vessels * vessels ≤ length report.old) × Reportable vessels pieces.now }
     ensures { report.new ≡ onto (rows vessels 0 vessels pieces.now) report.old }

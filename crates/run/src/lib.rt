@@ -27,7 +27,7 @@ pub struct Ran {
 }
 
 // Where a run stopped: what it yields but for the head.
-#[derive(Clone, Copy, Debug, PartialEq, Eq)]
+#[derive(Clone, Copy)]
 struct Stop {
     number: u32,
     index: u32,

@@ -49,7 +49,6 @@ fn layout_off(sheet: &[u8], vessels: u32, movements: u32) -> bool
 }
 
 // The numbers of a sheet's header, or the first check that the header fails.
-#[tactic(auto, using(crate::proofs::HeaderLaws::sheet_holds, crate::proofs::HeaderLaws::few_vessels, fields::proofs::LayoutLaws::few_movements))]
 pub fn read_header(sheet: &[u8]) -> Result<Header, Refusal>
     ensures { MatchResult result (λ header. (header ≡ header_numbers sheet.now) × (first (header_checks sheet.now) ≡ 0))
         (λ why. number_of why ≡ first (header_checks sheet.now)) }

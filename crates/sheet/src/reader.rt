@@ -16,7 +16,6 @@ use refusal::Refusal;
 use std::marker::Model;
 
 // The first check that what lies behind the header fails.
-#[tactic(auto, using(crate::proofs::ReadLaws::out_names, crate::proofs::ReadLaws::out_entries))]
 fn check_body(sheet: &[u8], vessels: u32, movements: u32) -> Result<(), Refusal>
     requires { Within vessels movements × (length sheet.now ≡ sheet_size vessels movements) }
     ensures { outcome_number result ≡ first (body_checks vessels movements sheet.now) }
@@ -52,7 +51,6 @@ impl<'a> Model for Sheet<'a> {
 
 impl<'a> Sheet<'a> {
     // The bytes as a sheet, or the first check that they fail.
-    #[tactic(auto, using(crate::proofs::ReadLaws::ways_out, refusal::proofs::Refusals::some_number))]
     pub fn read(bytes: &'a [u8]) -> Result<Self, Refusal>
         ensures { MatchResult result (λ sheet. (sheet ≡ bytes.now) × (read_number bytes.now ≡ 0)) (λ why. number_of why ≡ read_number bytes.now) }
     {

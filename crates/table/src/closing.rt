@@ -28,7 +28,6 @@ fn close_up(table: &mut [u32], n: usize) -> usize
 }
 
 // The same, where it is known how many have gone: if none has, there is nothing to do.
-#[tactic(auto, using(crate::proofs::ClosingUp::no_gaps))]
 fn close_gaps(table: &mut [u32], n: usize, gone: usize) -> usize
     requires { (n ≤ most_places) × (4 * n ≤ length table.old) × (length (stay (pieces_of n table.old)) + gone ≡ n) }
     ensures { Closes n table.old table.new result }
@@ -38,7 +37,6 @@ fn close_gaps(table: &mut [u32], n: usize, gone: usize) -> usize
 
 // The first g lifted pieces are put at place j and on. As a slice of their own they would be cut at each call, and
 // counted again from its length.
-#[tactic(auto, using(crate::proofs::ClosingUp::appended))]
 pub fn append(table: &mut [u32], j: usize, lifted: &[u32], g: usize)
     requires { (4 * (j + g) ≤ length table.old) × (4 * g ≤ length lifted.now) }
     ensures { table.new ≡ over (j + g) (pieces_of j table.old ++ pieces_of g lifted.now) table.old }

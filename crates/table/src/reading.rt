@@ -37,7 +37,7 @@ impl<'a> Pieces<'a> {
     }
 
     // The piece at place i, if it is there.
-    #[tactic(auto, using(crate::proofs::AllPieces::piece_there, crate::proofs::AllPieces::no_piece_there))]
+    #[tactic(auto, using(crate::proofs::AllPieces::no_piece_there))]
     pub fn get(&self, i: usize) -> Option<Piece>
         ensures { result ≡ slice_get self.now i }
     {
@@ -88,7 +88,6 @@ impl<'a> Iterator for Iter<'a> {
     ghost remaining = { item_count (λ left. left) };
 
     #[inline]
-    #[tactic(auto, using(crate::proofs::AllPieces::next_piece, crate::proofs::AllPieces::no_next_piece))]
     fn next(&mut self) -> Option<Piece> {
         let (first, rest) = self.numbers.split_first_chunk::<4>()?;
         let [holder, origin, birth, weight] = *first;

@@ -9,7 +9,7 @@ pub const AS_RECEIVED: u32 = 0;
 pub const STIRRED: u32 = 4;
 
 // Weight that is to go from a holder to another. What the source lacks is born there, with this birth minute.
-#[derive(Clone, Copy, Debug, PartialEq, Eq)]
+#[derive(Clone, Copy)]
 pub struct Move {
     pub source: u32,
     pub destination: u32,
@@ -18,7 +18,7 @@ pub struct Move {
 }
 
 // What moving the pieces did, and the count of pieces after it.
-#[derive(Clone, Copy, Debug, PartialEq, Eq)]
+#[derive(Clone, Copy)]
 pub struct Applied {
     pub whole: u32,
     pub split: u32,

@@ -35,7 +35,6 @@ impl<'a> Writer<'a> {
     }
 
     // Writes a text.
-    #[tactic(auto, using(crate::proofs::TextLaws::text_put, crate::proofs::TextLaws::text_written))]
     pub fn put_text(&mut self, text: &[u8])
         requires { Room self.old (length text.now) }
         ensures { Written self.old text.now self.new }

@@ -14,13 +14,16 @@ pub overflow_sub-p : goal.overflow_sub-p
 overflow_sub-p c = gift_fits c.requires c.loop-i.invariant c.loop-i-test.true c.piece_at-p.ensures
 
 pub loop-i-preserved-then-gift-eq0 : goal.loop-i-preserved-then-gift-eq0
-loop-i-preserved-then-gift-eq0 c = search (rules, part_stays)
+loop-i-preserved-then-gift-eq0 c =
+    search (rules, part_stays c.requires c.loop-i.invariant c.loop-i-test.true c.piece_at-p.ensures)
 
 pub loop-i-preserved : goal.loop-i-preserved
 loop-i-preserved c = elim c.if-gift-p.branch [
-  | then-gift-p w ↦ rw (w.table-is, w.stay-is) (search (rules, part_split))
-  | else-gift-p w ↦ rw (w.table-is, w.stay-is) (search (rules, part_whole))
+  | then-gift-p w ↦ rw (w.table-is, w.stay-is)
+      (search (rules, part_split c.requires c.loop-i.invariant c.loop-i-test.true c.piece_at-p.ensures))
+  | else-gift-p w ↦ rw (w.table-is, w.stay-is)
+      (search (rules, part_whole c.requires c.loop-i.invariant c.loop-i-test.true c.piece_at-p.ensures))
 ]
 
 pub returns : goal.returns
-returns c = search (rules, part_end)
+returns c = search (rules, part_end c.requires c.loop-i.invariant)

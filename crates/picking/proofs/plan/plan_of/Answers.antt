@@ -1,7 +1,10 @@
--- `plan::plan_of`: a key that is not the last, and one at which the walk ends.
-use Rattle.std.proofs.Common.{rules}
+-- `plan::plan_of`: the start, a key that is not the last, and one at which the walk ends.
+use Rattle.std.proofs.Common.{refl, rules}
 use Rattle.picking.proofs.Walk.{plan_next, plan_stop}
 use Rattle.picking.proofs.plan.plan_of.Goals as goal
+
+pub loop-c-init : goal.loop-c-init
+loop-c-init c = refl
 
 pub returns-then-left-eq0 : goal.returns-then-left-eq0
 returns-then-left-eq0 c = search (rules, plan_stop)

@@ -1,0 +1,7 @@
+-- `Limits::lot_fits` meets its contract: a piece that passes the first two tests fits by its weight.
+use Rattle.std.proofs.Common.{arith}
+use Rattle.std.proofs.lemmas.Bool.Decides.{nat_tests}
+use Rattle.ledger.proofs.audit.Limits.lot_fits.Goals as goal
+
+pub returns-else-p-self-2 : goal.returns-else-p-self-2
+returns-else-p-self-2 c = grind (arith, nat_tests)
