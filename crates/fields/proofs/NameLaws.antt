@@ -36,11 +36,11 @@ used_found name [] r e = e
 used_found name (other ∷ behind) r e =
     rw (slices_compared other name, same_either other name, used_found name behind (list_any (λ other. pointwise eqb other name) behind) refl) at e
 
--- the names left, from name i on
-pub names_more : (names : List (List ℕ)) (i : ℕ) → i < length names
-    → names_off (drop i names) ≡ (name_off (get_or names i []) (drop (i + 1) names) || names_off (drop (i + 1) names))
+-- the names left, from name i on, where it is told whether that one is off
+pub names_next : (names : List (List ℕ)) (i : ℕ) → i < length names → (off : Bool)
+    → off ≡ name_off (get_or names i []) (drop (i + 1) names) → names_off (drop i names) ≡ (off || names_off (drop (i + 1) names))
 unfolding exists
-names_more names i h = rw (drop_more names i [] h)
+names_next names i h off e = rw (e, drop_more names i [] h)
 
 pub names_none : (names : List (List ℕ)) (i : ℕ) → length names ≤ i → names_off (drop i names) ≡ false
 unfolding exists

@@ -34,7 +34,6 @@ impl Keeping for TableKeeping {
 
     ghost untouched = { λ t. tt };
 
-    #[tactic(auto, unfolding(book::specs::Motion::takes))]
     fn carry(&mut self, head: &Head, table: &mut [u32], m: Motion) -> Option<Applied> {
         let n = head.pieces as usize;
         let places = table::places(table);

@@ -27,7 +27,7 @@ fn header_numbers(sheet: &[u8]) -> Header
 }
 
 // Whether the sheet is too short for a header, or begins with another mark.
-#[tactic(auto, using(crate::proofs::HeaderLaws::unmarked, std::proofs::lemmas::Bool::Decides::nat_tests), unfolding(crate::specs::Sheet::no_sheet))]
+#[tactic(auto, using(std::proofs::lemmas::Bool::Decides::nat_tests), unfolding(crate::specs::Sheet::no_sheet))]
 fn no_sheet(sheet: &[u8]) -> bool
     ensures { result ≡ no_sheet sheet.now }
 {

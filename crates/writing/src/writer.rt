@@ -61,7 +61,7 @@ impl<'a> Draft<'a> {
     }
 
     // The first check that the names, the movements and the room fail.
-    #[tactic(auto, using(crate::proofs::WriteLaws::out_name, crate::proofs::WriteLaws::out_room, crate::proofs::WriteLaws::out_all, crate::proofs::WriteLaws::out_movement, refusal::proofs::Refusals::outcomes))]
+    #[tactic(auto, using(crate::proofs::WriteLaws::out_name, crate::proofs::WriteLaws::out_room, crate::proofs::WriteLaws::out_movement, refusal::proofs::Refusals::outcomes))]
     fn check_content(&self, room: usize) -> Result<(), Refusal>
         requires { Within self.now.vessels (count_given self.now.numbers.now) × (length self.now.names.now ≡ name_size * self.now.vessels) }
         ensures { outcome_number result ≡ first (content_checks self.now.vessels (count_given self.now.numbers.now) self.now.names.now self.now.numbers.now room) }
