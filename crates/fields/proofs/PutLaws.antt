@@ -1,7 +1,7 @@
 -- Laws of bytes put one behind the other: two runs of stores are one, a part written whole is a run, and a turn of each loop that puts bytes.
 -- Assumes nothing.
 use mathlib.Core.List.{flat_map}
-use Rattle.std.proofs.Common.{ℕ, zero, suc, ◌+◌, ◌-◌, ◌*◌, ◌/◌, ◌%◌, ◌<◌, ◌≤◌, add-zero, add-suc, suc-add, add_assoc, mul-suc, add-one, arith, ◌≡◌, refl, sym, ap, ◌∙◌, List, [], ◌∷◌, ◌++◌, append_assoc, append-nil, length-append, length, get_or, take, drop, set, drop_of_length-le, drop-drop, take_all}
+use Rattle.std.proofs.Common.{ℕ, zero, suc, ◌+◌, ◌-◌, ◌/◌, ◌%◌, ◌<◌, ◌≤◌, add-zero, add-suc, suc-add, arith, ◌≡◌, refl, sym, ap, ◌∙◌, List, [], ◌∷◌, ◌++◌, append_assoc, append-nil, length-append, length, get_or, take, drop, set, drop_of_length-le, drop-drop, take_all}
 use Rattle.std.proofs.lemmas.List.{take_more_set, drop_more}
 use lib.Seq.{sets, sets-eq}
 use borrow.Rule.Slice.PartMut.{put_mid}

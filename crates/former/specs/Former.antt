@@ -12,7 +12,6 @@ use Rattle.refusal.specs.Numbers.{TOP, Check, ◌if◌, first}
 use Rattle.book.specs.declared.Head.{Head}
 use Rattle.book.specs.Head.{book_of, balances_of, all_of, lot_tests, every, same}
 use Rattle.book.specs.Motion.{Standing}
-use Rattle.book.specs.Transfer.{transfer_terms, unaged}
 use Rattle.book.specs.Calls.{Meaning}
 use Rattle.book.specs.Memory.{Outcome, outcome}
 use Rattle.conservation.specs.WeighBook.{WeighBook}

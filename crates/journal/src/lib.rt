@@ -1,8 +1,7 @@
 // A list of calls carried out on a fresh book.
 #![tactic(auto)]
 
-ghost use Rattle.std.specs.Prelude.{◌≡◌, ◌≤◌, List, ℕ, length};
-ghost use Rattle.refusal.specs.Refusals.{outcome_number};
+ghost use Rattle.std.specs.Prelude.{◌≤◌, List, ℕ, length};
 ghost use Rattle.book.specs.Calls.{enter};
 ghost use Rattle.book.specs.Memory.{Audited};
 ghost use Rattle.journal.specs.Carried.{called, Makes, MakesAll, CarriesOut};

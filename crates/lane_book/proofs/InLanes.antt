@@ -9,7 +9,7 @@ use Rattle.table.proofs.Table.{pieces_over, places_fit}
 use Rattle.taking.specs.Taken.{Taken}
 use Rattle.taking.specs.Taking.{handed}
 use Rattle.taking.specs.declared.Applied.{Applied}
-use Rattle.taking.specs.Applied.{full, accepted, applied, table_left}
+use Rattle.taking.specs.Applied.{full, applied, table_left}
 use Rattle.taking.specs.Applied as Table
 use Rattle.lanes.specs.Lanes.{Contents, Movable, taken_of, Moves}
 use Rattle.lanes.proofs.Laid.{lay_twice, length_lay}

@@ -121,7 +121,8 @@ pub fn list_sheet(sheet: &[u8], table: &mut [u32], out: &mut [u8]) -> usize
     put_listing(ran, table, out)
 }
 
-// Reads a sheet from the input, runs it on a table of 4,096 places, and writes its listing to the output.
+// Reads a sheet from the input, runs it on a table of 4,096 places, and writes its listing to the output. Of an input
+// longer than any sheet one byte more than the longest is read. Answers the error of a read or a write that fails.
 pub fn list<R: Read, W: Write>(input: &mut R, output: &mut W) -> io::Result<()>
     ensures { OnOk result (IfSome (R.remaining input.old) (λ bytes. Appends (W.contents output.old)
         (W.contents output.new) (sheet_listing bytes (replicate (4 * most_places) 0)))) }

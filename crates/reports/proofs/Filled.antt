@@ -1,7 +1,7 @@
 -- The loops and parts of a report: clearing its numbers, entering a piece, what a pass asks of a book's pieces and
 -- leaves, and rows one behind the other.
 -- Assumes nothing.
-use Rattle.std.proofs.Common.{◌≡◌, refl, sym, ap, ◌∙◌, Bool, true, false, List, [], ◌∷◌, ◌++◌, append_assoc, append-nil, ℕ, zero, suc, ◌+◌, ◌*◌, ◌≤◌, ◌<◌, zero-add, zero-mul, suc-mul, add-zero, add-one, arith, eqb, length, length-take, take, drop, drop_of_length-le, take_at, drop_at, drop-drop}
+use Rattle.std.proofs.Common.{◌≡◌, sym, ap, ◌∙◌, true, List, [], ◌∷◌, ◌++◌, append_assoc, append-nil, ℕ, zero, suc, ◌+◌, ◌*◌, ◌≤◌, ◌<◌, zero-add, zero-mul, suc-mul, add-zero, add-one, arith, eqb, length, take, drop, drop_of_length-le, take_at, drop_at, drop-drop}
 use Rattle.std.proofs.lemmas.List.{length-take-le}
 use Rattle.std.proofs.lemmas.Bool.{and_parts}
 use Rattle.std.proofs.lemmas.Bool.Decides.{nat_tests}

@@ -8,7 +8,7 @@ use Rattle.refusal.specs.Numbers.{first, if_zero}
 use Rattle.refusal.proofs.Numbers.{first_zero}
 use Rattle.book.specs.declared.Head.{Head}
 use Rattle.book.specs.declared.Transfer.{Transfer}
-use Rattle.book.specs.Head.{empty_head, open_checks, opens, opening}
+use Rattle.book.specs.Head.{open_checks, opens, opening}
 use Rattle.book.specs.Calls.{Call, post}
 use Rattle.book.specs.Memory.{Outcome, call_on}
 use Rattle.book.specs.Lists.{Journal, calls_on, without_settings, evens, stirs}
@@ -20,7 +20,7 @@ use Rattle.conservation.proofs.Unstirred.{first_rules, answered_all}
 use Rattle.book.proofs.Accepted.{post_scale}
 use Rattle.former.proofs.OneRule.{never_set, opened_unset}
 use Rattle.sheet.specs.Sheet.{rule_of, vessels_of, movements_of, read_number}
-use Rattle.run.specs.Run.{transfers_of, Running, ended, go_on, run_from, run_number, running}
+use Rattle.run.specs.Run.{transfers_of, Running, go_on, run_from, run_number, running}
 use Rattle.fields.proofs.GroupLaws.{length_groups}
 use Rattle.run.proofs.RunLaws.{opened_well}
 use Rattle.run.proofs.InWords.{refused_run}

@@ -3,7 +3,7 @@ ghost use Rattle.std.specs.Prelude.{◌≡◌, ◌++◌, ◌≤◌, ◌+◌, ◌
 ghost use Rattle.table.specs.Table.{most_places, pieces_of, lay, over};
 ghost use Rattle.table.specs.Closing.{stay, settled, Settling, Closes};
 
-use crate::{Piece, piece_at, put_piece};
+use crate::{piece_at, put_piece};
 
 // A holder that no book can have: it marks a place whose piece has gone.
 pub const VACANT: u32 = u32::MAX;

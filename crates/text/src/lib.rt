@@ -1,7 +1,7 @@
 // Texts and decimal numbers written into bytes that are lent; and numbers read from a text.
 #![tactic(auto)]
 
-ghost use Rattle.std.specs.Prelude.{◌≡◌, ◌+◌, ◌≤◌, length};
+ghost use Rattle.std.specs.Prelude.{◌≡◌, ◌+◌, length};
 ghost use Rattle.text.specs.Digits.{most_digits, decimal};
 ghost use Rattle.text.specs.Text.{word};
 ghost use Rattle.text.specs.Writing.{Room, Written, Writes};

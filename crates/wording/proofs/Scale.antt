@@ -1,21 +1,15 @@
 -- THE SCALE. While nothing is on it, every tip is refused with 23, whatever else is amiss with it (`bare_refuses`;
 -- Load.antt has what is true while something is).
 -- Assumes nothing.
-use Rattle.std.proofs.Common.{◌≡◌, refl, List, ℕ, arith, ◌∙◌}
-use Rattle.std.proofs.lemmas.Bool.Decides.{nat_tests}
+use Rattle.std.proofs.Common.{◌≡◌, refl, List, ℕ, ◌∙◌}
 use Rattle.refusal.specs.Numbers.{first}
 use Rattle.book.specs.declared.Head.{Head}
-use Rattle.book.specs.declared.Transfer.{Transfer}
 use Rattle.book.specs.declared.Tip.{Tip}
-use Rattle.book.specs.Head.{the_scale, book_of}
-use Rattle.book.specs.Transfer.{motion_of}
 use Rattle.book.specs.Scale.{tip_checks}
-use Rattle.book.specs.Calls.{post, tip}
-use Rattle.book.specs.Memory.{book_checks, number_of, call_on}
+use Rattle.book.specs.Calls.{tip}
+use Rattle.book.specs.Memory.{book_checks, number_of}
 use Rattle.book.proofs.Memory.{on_number, book_passed}
 use Rattle.book.proofs.Known.{adds_up_told}
-use Rattle.book.proofs.Sound.{held_after}
-use Rattle.book.proofs.Accepted.{post_fit, accepted_book}
 
 -- on a head and a table that checks 1 and 4 let pass
 pub bare_refuses : (h : Head) (t : List ℕ) → first (book_checks h t) ≡ 0 → h.scale ≡ 0 → (y : Tip)

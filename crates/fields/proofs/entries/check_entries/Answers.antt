@@ -1,4 +1,5 @@
--- `check_entries`: a turn whose movement passes, one whose movement fails, and the end.
+-- `check_entries`: a turn whose movement passes, one whose movement fails, and the end, by the laws of such a walk
+-- (`check_turn`, `check_stop`, `check_end`).
 use Rattle.std.proofs.Common.{arith}
 use Rattle.refusal.proofs.Refusals.{outcomes}
 use Rattle.fields.proofs.EntryLaws.{named_entry, check_turn, check_stop, check_end}

@@ -7,7 +7,8 @@ pub share_out-splits-requires : goal.share_out-splits-requires
 share_out-splits-requires c = (search (rules, stir_places), search rules, search (rules, stir_asked))
 
 pub returns-then-places-n : goal.returns-then-places-n
-returns-then-places-n c = search (rules, stir_refused)
+returns-then-places-n c =
+    stir_refused c.requires.0 c.requires.1 c.of-pieces.ensures c.share_out-splits.ensures c.if-places-n.true
 
 pub part-parted-requires : goal.part-parted-requires
 part-parted-requires c = search (rules, stir_partible)

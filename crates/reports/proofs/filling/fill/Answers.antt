@@ -1,4 +1,4 @@
--- The row is written, and what lies behind it stays.
+-- `fill` meets its contract for a held report: its row is written, and what lies behind it stays.
 use Rattle.std.proofs.Common.{refl, length}
 use Rattle.std.proofs.lemmas.List.{length-take-le}
 use Rattle.book.proofs.ReportLaws.{held_room, length_row}

@@ -1,4 +1,5 @@
--- `read_header`: a sheet that is none was passed over, so the header's bytes are there and the counts small.
+-- `read_header`: what is no sheet was refused before, so that the header's bytes are there, and the counts that passed
+-- are small.
 use Rattle.std.proofs.Common.{arith}
 use Rattle.fields.proofs.LayoutLaws.{few_movements}
 use Rattle.sheet.proofs.HeaderLaws.{sheet_holds, few_vessels}

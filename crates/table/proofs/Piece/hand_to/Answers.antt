@@ -1,4 +1,4 @@
--- `Piece::hand_to`: one number is another.
+-- `Piece::hand_to` meets its contract: the holder is the new one, and the other numbers stay.
 use Rattle.std.proofs.Common.{refl}
 use Rattle.table.proofs.Piece.hand_to.Goals as goal
 

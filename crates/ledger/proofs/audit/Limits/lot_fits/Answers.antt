@@ -1,4 +1,4 @@
--- `Limits::lot_fits` meets its contract: a piece that passes the first two tests fits by its weight.
+-- `Limits::lot_fits` meets its contract: a piece that was born after the last minute does not fit.
 use Rattle.std.proofs.Common.{arith}
 use Rattle.std.proofs.lemmas.Bool.Decides.{nat_tests}
 use Rattle.ledger.proofs.audit.Limits.lot_fits.Goals as goal
